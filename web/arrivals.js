@@ -1,13 +1,42 @@
 // @ts-check
 /* What arrives for the live machine and waits for its count: changes of the mouse and of the switches, each with the time at which
  * it was made, and typed keys and serial bytes, each until the machine has room for it. */
-import { MOUSE, PER_SECOND } from "./states.js";
+import { joined, MOUSE, PER_SECOND } from "./states.js";
 
 // Two changes of the mouse's keys are at least 1 ms of the machine apart, so that a program sees both; moves with a key down as
 // well. Moves without one are 8 ms apart. Those between two such moves are left out.
 const BUTTONS = 7 << 24, APART = PER_SECOND / 1000, IDLE_APART = 8 * APART;
 
 /** @typedef {{ kind: number, value: number, ms: number }} Arrival */
+
+/** Bytes that wait; the first one that came is taken first. There may be millions of them. */
+export class Queue {
+  at = 0;
+
+  /** @param {ArrayLike<number>} bytes */
+  constructor(bytes) {
+    this.bytes = Uint8Array.from(bytes);
+  }
+
+  get length() {
+    return this.bytes.length - this.at;
+  }
+
+  /** Returns a copy of those that wait. */
+  get rest() {
+    return this.bytes.slice(this.at);
+  }
+
+  /** @param {ArrayLike<number>} more */
+  push(more) {
+    this.bytes = joined([this.bytes.subarray(this.at), Uint8Array.from(more)]);
+    this.at = 0;
+  }
+
+  take() {
+    return this.bytes[this.at++];
+  }
+}
 
 export class Arrivals {
   /** @type {Arrival[]} */
@@ -17,8 +46,8 @@ export class Arrivals {
 
   /** @param {Partial<Waiting>} waiting */
   constructor({ keys = [], serial = [] } = {}) {
-    this.keys = Array.from(keys);
-    this.serial = Array.from(serial);
+    this.keys = new Queue(keys);
+    this.serial = new Queue(serial);
   }
 
   /** Says that the machine has this mouse word, with no change of it shortly before.

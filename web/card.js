@@ -1,6 +1,7 @@
 // @ts-check
 /* The card beside the screen, which has an answer, or the end of a game. */
 import { button, el, made } from "./elements.js";
+import { isNarrow } from "./timeline.js";
 
 // What is done when the card is closed.
 let whenClosed = () => {};
@@ -18,7 +19,7 @@ export function showCard(title, parts, closed = () => {}) {
   el("card").replaceChildren(heading, close, ...parts);
   if (!el("card").hidden) return;
   el("card").hidden = false;
-  el("card").scrollIntoView({ block: "nearest" });
+  if (!isNarrow()) el("card").scrollIntoView({ block: "nearest" });
 }
 
 /** Closes the card. */

@@ -2,17 +2,17 @@
 /* The registers of the machine, the checkpoints of a recording, and where the two differ. */
 import { app } from "./app.js";
 import { showAround, showListing } from "./code.js";
-import { attempt, button, el, grouped, made, paragraph, write } from "./elements.js";
+import { attempt, button, el, grouped, made, named, paragraph } from "./elements.js";
 import { isAhead, lookAt, nowCount, runTo, shownCount, shownState } from "./look.js";
 import { ALL_BITS, showMemory } from "./memory.js";
 import { DOTS_WIDE, LINES, paint } from "./screen.js";
-import { AT, equal, field, hex, PAGE_BYTES, partsOf, rangesText, REGISTERS, STATE_BYTES, wordsOf } from "./states.js";
-import { isTab } from "./tabs.js";
+import { AT, equal, field, hex, PAGE_BYTES, partsOf, rangesText, REGISTERS, sentText, STATE_BYTES, wordsOf } from "./states.js";
+import { isTab, showTab } from "./tabs.js";
 import { notePassed } from "./timeline.js";
 import { headlineOf } from "./verdicts.js";
 import { askWho } from "./who.js";
 
-export const REGISTERS_ASKED = [...REGISTERS, "H", "flags"], DEVICES_ASKED = ["switches", "LEDs", "mouse", "serial", "keys"];
+export const REGISTERS_ASKED = [...REGISTERS, "H", "flags"], DEVICES_ASKED = ["stop", "switches", "LEDs", "mouse", "serial", "keys"];
 /** A part of the machine beside what is claimed of it.
  * @typedef {{ name: string, own: string, claimed: string | undefined, about: About | null }} BothParts */
 
@@ -79,13 +79,14 @@ export function showRegisters(state) {
  * @param {Bytes | null} old */
 function showParts(state, old) {
   const before = old && new Map(partsOf(old));
-  for (const [name, text] of partsOf(state)) {
+  for (const [name, plain] of partsOf(state)) {
+    const text = name === "PC" ? `${hex(4 * field(state, AT.PC), 4)} · ${plain}` : plain;
     const { value, holder } = /** @type {{ value: HTMLElement, holder: HTMLElement }} */ (registerCells.get(name));
     if (holder.textContent !== text) {
       holder.textContent = text;
       if (holder !== value) holder.setAttribute("aria-label", `${name} ${text}: who wrote it`);
     }
-    value.classList.toggle("changed", Boolean(before && before.get(name) !== text));
+    value.classList.toggle("changed", Boolean(before && before.get(name) !== plain));
   }
 }
 
@@ -127,14 +128,19 @@ function cells(state, before, wrong) {
   });
 }
 
+/** @param {Passed[]} passed */
+export function showPassed(passed) {
+  el("passed").append(...passed.map(passedItem));
+  el("passed").scrollTop = el("passed").scrollHeight;
+  for (const { count, part } of passed) notePassed(count, !part);
+}
+
 /** @param {Passed} passed */
-export function showPassed({ number, count, part }) {
+function passedItem({ number, count, part }) {
   const item = made("li", part ? `at ${grouped(count)}: false, first in ${part}` : `at ${grouped(count)}: true`, part ? "wrong" : "");
   item.value = number;
   item.dataset.count = `${count}`;
-  el("passed").append(item);
-  el("passed").scrollTop = el("passed").scrollHeight;
-  notePassed(count, !part);
+  return item;
 }
 
 // The checkpoints of a recording
@@ -157,7 +163,7 @@ export async function showClaim(number) {
  * @param {OpenFile} file */
 export function showOf({ name, version, inputs, checkpoints, verdict }) {
   const line = verdict ? `: ${verdict.line}` : "";
-  write("claims-of", `of ${grouped(checkpoints)} in ${name}, ${grouped(inputs)} inputs, version ${version}${line}`);
+  el("claims-of").replaceChildren(`of ${grouped(checkpoints)} in `, named(name), `, ${grouped(inputs)} inputs, version ${version}${line}`);
 }
 
 /**
@@ -208,6 +214,7 @@ export async function showFalse() {
 async function bothParts(wrong) {
   const page = /^page (\d+)$/.exec(wrong.part);
   if (page) return bytesThatDiffer(wrong, Number(page[1]));
+  if (wrong.part === "out") return outputThatDiffers(wrong);
   const shown = await app.live.ask("claimed", { number: wrong.number, of: app.work.generation });
   return shown && shownCount() === wrong.count ? partsThatDiffer(shown.state, wrong.part) : null;
 }
@@ -216,6 +223,14 @@ async function bothParts(wrong) {
 function bothLines({ name, own, claimed, about }) {
   const line = paragraph(`${name}: the machine has ${own}, the recording claims ${claimed}.`, "both");
   return about ? [line, button("Which instruction made it so", () => askWho(about, `Who wrote ${name}`))] : [line];
+}
+
+/** Goes to the false checkpoint of the file that is open, and shows the registers there. */
+export async function showMe() {
+  const wrong = falseClaim();
+  if (!wrong) return;
+  showTab("state");
+  await toMachineAt(wrong.count);
 }
 
 /** Looks at what the machine has at a count, to which a replay runs first: before, there is only what the file claims.
@@ -232,6 +247,20 @@ function toMachineAt(count) {
 function partsThatDiffer(claimedState, part) {
   const [own, claimed] = [shownState(), claimedState].map((state) => new Map(partsOf(state)).get(part));
   return own === undefined ? null : { name: part, own, claimed, about: aboutPart(part) };
+}
+
+/** Returns the first byte that was sent since the checkpoint before and is other than what the false checkpoint claims.
+ * @param {Wrong} wrong
+ * @returns {Promise<BothParts | null>} */
+async function outputThatDiffers({ number, count }) {
+  const from = app.file?.claims[number - 1] ?? 0, claimed = await app.live.ask("claimedOutput", { number, of: app.work.generation });
+  const found = await app.past.ask("output", { at: count, from });
+  if (!found || !claimed) return null;
+  const own = found.bytes, length = Math.max(own.length, claimed.length);
+  let at = 0;
+  while (at < length && own[at] === claimed[at]) at++;
+  const [one, other] = [own, claimed].map((bytes) => (at < bytes.length ? `${hex(bytes[at], 2)} (${sentText(bytes.subarray(at, at + 1))})` : "no more"));
+  return { name: `byte ${grouped(at + 1)} sent after checkpoint ${number - 1}`, own: `${one} of ${grouped(own.length)}`, claimed: `${other} of ${grouped(claimed.length)}`, about: null };
 }
 
 /** Returns the first word of a page that differs from what the false checkpoint claims.

@@ -8,6 +8,7 @@ import { lookAt, shownCount } from "./look.js";
 import { conditionsOfWatches, setWatches } from "./memory.js";
 import { forgetFound, foundAt } from "./search.js";
 import { hex } from "./states.js";
+import { stoppedAt } from "./stops.js";
 import { isTab } from "./tabs.js";
 
 // So many instructions before the cursor are shown, and after it; and a search has so many conditions at most.
@@ -95,7 +96,7 @@ export function showListing(pc, listing) {
     if (!known) place.insertBefore(parts.line, place.children[number] ?? null);
     fillLine(parts, at, word, at === pc);
   });
-  el("no-code").hidden = listing.length > 0;
+  el("no-code").hidden = shown.has(pc);
 }
 
 /** Makes the line of an instruction.
@@ -129,10 +130,11 @@ function fillLine(parts, at, word, isHere) {
 
 /** Shows what the instructions around the cursor did, if that is to be seen. */
 export async function showAround() {
-  const at = shownCount();
-  if (!app.latest || app.latest.on || !isTab("code")) return;
+  if (app.latest?.on) return write("trace", "Pause the machine to see what it did.");
+  if (!app.latest || !isTab("code")) return;
+  const now = shownCount(), at = Math.min(now, stoppedAt() ?? now);
   const done = await app.past.around(at, Math.min(DONE_BEFORE, at), DONE_AFTER);
-  if (done && at === shownCount()) el("trace").replaceChildren(...done.map((one) => doneLine(one, at)));
+  if (done && now === shownCount() && !app.latest.on) el("trace").replaceChildren(...done.map((one) => doneLine(one, at)));
 }
 
 /**
@@ -142,6 +144,6 @@ export async function showAround() {
 function doneLine({ count, pc, word, changes }, at) {
   const line = made("div", "", count === at ? "here" : ""), go = button(grouped(count), () => lookAt(count));
   const changed = changes.map(([name, old, now]) => `${name} ${old} → ${now}`).join("; ");
-  line.append(go, ` ${`${pc}`.padStart(6)}  ${(word === null ? "" : instruction(word, pc)[0]).padEnd(20)} ${changed}`);
+  line.append(go, ` ${`${pc}`.padStart(6)}  ${(word === null ? "outside memory" : instruction(word, pc)[0]).padEnd(20)} ${changed}`);
   return line;
 }

@@ -2,9 +2,10 @@
 /* The devices that the user works with: keys and composed text, the mouse, the switches and the serial line. What cannot be sent
  * stays where it is, or the page says so. */
 import { app, send } from "./app.js";
-import { attempt, el, notice, on } from "./elements.js";
-import { noteTyped } from "./kept.js";
+import { attempt, el, grouped, notice, on, set, write } from "./elements.js";
+import { forgetSerial, noteTyped } from "./kept.js";
 import { inputRefusalInPast, isPast, shownState } from "./look.js";
+import { isToGoOn, setRun } from "./running.js";
 import { dotAt } from "./screen.js";
 import { ARROWS, isSnake } from "./snake.js";
 import { AT, field, last, MOUSE, SWITCHES } from "./states.js";
@@ -74,7 +75,7 @@ export function pressed(event) {
 /** Whether a key is an arrow that goes to a machine that runs, which has no character for it.
  * @param {KeyboardEvent} event */
 function isArrow({ key, ctrlKey, metaKey, altKey }) {
-  return key in ARROWS && !isPs2() && !ctrlKey && !metaKey && !altKey && app.latest?.on;
+  return key in ARROWS && !isPs2() && !ctrlKey && !metaKey && !altKey && (app.latest?.on || isToGoOn);
 }
 
 /** Sends an arrow as the key that Snake has for it; else says that it is dropped.
@@ -91,14 +92,14 @@ function sayIfUncomposed() {
   if (!el("screen").editContext && isRunning()) notice("This browser composes no characters here: send them over the serial line.");
 }
 
-/** Whether keys and the mouse go to the machine now; if not, the page says why. */
+/** Whether keys and the mouse go to the machine now; if not, the page says why. One that was taken over goes on first. */
 export function isRunning() {
   if (!app.latest) return false;
   const { on, inputRefusal } = app.latest;
   if (isPast()) return notice(`${inputRefusalInPast()}.`), false;
-  if (on && !inputRefusal) return true;
-  notice(`${inputRefusal ?? "The machine is paused: keys and the mouse go to it while it runs"}.`);
-  return false;
+  if (isToGoOn && !on && !inputRefusal) attempt(() => setRun(true));
+  else if (!on || inputRefusal) return notice(`${inputRefusal ?? "The machine is paused: keys and the mouse go to it while it runs"}.`), false;
+  return true;
 }
 
 /** @param {number[]} codes */
@@ -109,8 +110,10 @@ export function sendCodes(codes) {
 /** Types key codes, or sends serial bytes. Returns why they have no effect, or null.
  * @param {Requests["type"][0]} codes */
 async function type(codes) {
-  const forget = noteTyped(codes), why = await app.live.ask("type", codes);
+  const forget = noteTyped(codes), { length = 0 } = codes.serial ?? {}, of = length + (app.latest?.serial ? serialOf : 0);
+  const why = await app.live.ask("type", codes);
   if (why) forget();
+  else if (length) serialOf = of;
   return why;
 }
 
@@ -314,10 +317,39 @@ export async function sendSerial(event) {
   event.preventDefault();
   const text = el("serial").value, lines = text.replaceAll("\n", "\r") + (el("serial-return").checked ? "\r" : "");
   if (!app.latest || !lines) return;
-  const inputRefusal = inputRefusalInPast() ?? (await type({ serial: [...new TextEncoder().encode(lines)] }));
+  const inputRefusal = inputRefusalInPast() ?? (await type({ serial: new TextEncoder().encode(lines) }));
   if (inputRefusal) return notice(`${inputRefusal}. The text stays here.`);
   notice();
   if (el("serial").value === text) el("serial").value = "";
+}
+
+/** Sends the bytes of a file, as they are.
+ * @param {HTMLInputElement} chooser */
+export async function sendFile(chooser) {
+  const [file] = chooser.files ?? [];
+  chooser.value = "";
+  if (!app.latest || !file) return;
+  const why = inputRefusalInPast() ?? (await type({ serial: new Uint8Array(await file.arrayBuffer()) }));
+  notice(why ? `${why}. The file is not sent.` : "");
+}
+
+// How many serial bytes wait at most, of those that were sent together; the progress of fewer is not shown.
+let serialOf = 0;
+const FEW = 100;
+
+/** Shows how many serial bytes wait.
+ * @param {number} left */
+export function showSerial(left) {
+  serialOf = left ? Math.max(serialOf, left) : 0;
+  set("serial-progress", { hidden: serialOf < FEW });
+  if (serialOf < FEW) return;
+  set("serial-bar", { max: serialOf, value: serialOf - left });
+  write("serial-left", `${grouped(left)} of ${grouped(serialOf)} bytes wait`);
+}
+
+/** Drops the serial bytes that the machine has not taken yet. */
+export function cancelSerial() {
+  return forgetSerial(() => app.live.ask("cancelSerial"));
 }
 
 /** Enter sends the text; Shift+Enter makes a new line.

@@ -13,9 +13,11 @@ export const grouped = (number) => Math.floor(number).toLocaleString("en");
  * @param {string} what */
 export const many = (number, what) => `${grouped(number)} ${what}${number === 1 ? "" : "s"}`;
 
-/** @param {string} [text] */
+/** Says something, in place of what was said before, also of a search; or nothing.
+ * @param {string} [text] */
 export function notice(text) {
   write("notice", text ?? "");
+  if (text) write("found", "");
 }
 
 /** Sets a text, unless it is there already: the browser would lay the page out anew for the same text, too.
@@ -32,6 +34,22 @@ export function set(name, properties) {
   const element = /** @type {{ [property: string]: unknown }} */ (/** @type {unknown} */ (el(name)));
   for (const [property, value] of Object.entries(properties)) if (element[property] !== value) element[property] = value;
 }
+
+/** Returns a name in which what would change the text around it is written out: control characters, and those that turn the direction.
+ * @param {string} name */
+export function plainName(name) {
+  return name.replace(/[\p{Cc}\p{Cs}\u061c\u200e\u200f\u2028-\u202e\u2066-\u2069]/gu, (it) => `[U+${Number(it.codePointAt(0)).toString(16).toUpperCase().padStart(4, "0")}]`);
+}
+
+/** Closes the menus that are open, but for the one that has an element.
+ * @param {EventTarget | null} element */
+export function closeMenus(element = null) {
+  for (const menu of document.querySelectorAll("#galluspa .menu[open]")) if (!(element instanceof Node && menu.contains(element))) menu.removeAttribute("open");
+}
+
+/** Makes a name, whose direction changes nothing around it.
+ * @param {string} name */
+export const named = (name) => made("bdi", name);
 
 /** Makes an element of a text.
  * @template {keyof HTMLElementTagNameMap} Tag

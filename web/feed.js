@@ -9,6 +9,8 @@ import { differingPages, MEMORY_BYTES, PAGE_BYTES } from "./states.js";
 export const KEYFRAME_STEPS = 2500000, KEYFRAME_MS = 12, MOST_KEYFRAME_STEPS = 10 * KEYFRAME_STEPS, WAITING_STEPS = 200000;
 // A fast run spends at most this part of its time on keyframes.
 const KEYFRAME_SHARE = 0.02;
+// Checkpoints have keyframes, but not all of those that are nearer to one another.
+const CHECKPOINT_STEPS = 100000;
 // How long the other side may take to hear of a cut.
 const CUT_MS = 1000;
 
@@ -61,6 +63,12 @@ export class Feed {
     this.seen = count;
     const isLong = this.took >= KEYFRAME_MS || steps >= MOST_KEYFRAME_STEPS;
     if (steps >= KEYFRAME_STEPS && isLong && !(isFast && performance.now() < this.due)) this.keyframe(false);
+  }
+
+  /** Posts the state at a checkpoint of a file, or, if there is a keyframe shortly before, only how far the machine is. */
+  checkpoint() {
+    if (this.machine.count - this.last >= CHECKPOINT_STEPS) this.keyframe(true);
+    else this.post();
   }
 
   /** Posts the state, with the pages that changed since the last time.

@@ -2,14 +2,16 @@
 /* Shows the frames of the live machine: what it shows, sends and says. */
 import { app, setFrame } from "./app.js";
 import { forgetRegisters, showPassed, showPaused, showRunning } from "./claims.js";
-import { forgetHits, meetBreak } from "./code.js";
-import { followDevices, showDevices } from "./devices.js";
-import { attempt, el, many, notice, write } from "./elements.js";
+import { forgetHits, meetBreak, showAround } from "./code.js";
+import { followDevices, showDevices, showSerial } from "./devices.js";
+import { attempt, el, many, notice, set, write } from "./elements.js";
 import { keep, noteNews } from "./kept.js";
 import { isPast, lookAtNow, showLook, showMode } from "./look.js";
-import { drawSoon } from "./screen.js";
-import { followGame, pointsOf } from "./snake.js";
-import { AT, countOf, field, STOPS } from "./states.js";
+import { setToGoOn } from "./running.js";
+import { drawSoon, endPreview } from "./screen.js";
+import { followGame, isSnake, pointsOf } from "./snake.js";
+import { AT, countOf, field } from "./states.js";
+import { findStop, stopText } from "./stops.js";
 import { beginLanes, noteFrame, showCursor } from "./timeline.js";
 import { endWelcome } from "./welcome.js";
 
@@ -24,6 +26,7 @@ export function beginShowing() {
   if (!app.latest) return;
   const { state, listing } = app.latest;
   endWelcome();
+  setToGoOn(false);
   lookAtNow();
   forgetHits();
   forgetRegisters();
@@ -34,6 +37,7 @@ export function beginShowing() {
   showDevices(state);
   showPaused(state, listing);
   showLook(true);
+  findStop();
 }
 
 /** @param {LiveNews} news */
@@ -53,17 +57,24 @@ function showFrame(frame) {
   noteNews(frame);
   followGame(frame, wasReplay);
   noteFrame(frame);
+  if (frame.on || countOf(frame.state)) endPreview();
   if (!isPast()) showNow(frame, wasReplay);
+  const isPlayed = isSnake() && frame.on && !frame.isReplay;
+  set("game", { hidden: !isPlayed });
+  set("state", { hidden: isPlayed });
   showMode(frame);
   showStatus(frame);
+  showSerial(frame.serial);
   if (wasOn && !frame.on) keep();
+  if (wasOn !== frame.on) attempt(showAround);
+  findStop();
 }
 
 /** Shows a frame of the live machine, which is looked at now.
  * @param {Frame} frame
  * @param {boolean} [wasReplay] */
 function showNow(frame, wasReplay) {
-  if (frame.dots) drawSoon(frame.dots, true);
+  if (frame.dots) drawSoon(frame.dots);
   showLamps(field(frame.state, AT.LEDs));
   if (frame.isReplay || wasReplay) followDevices(frame.state);
   write("when", "Registers");
@@ -102,7 +113,7 @@ export function showLamps(value) {
 
 /** Writes the status line and moves the cursor: while the machine runs, no more often than can be read.
  * @param {Frame} frame */
-function showStatus(frame) {
+export function showStatus(frame) {
   const now = performance.now();
   if (frame.on && now < statusDue) return;
   statusDue = now + STATUS_MS;
@@ -112,9 +123,8 @@ function showStatus(frame) {
 
 /** @param {Frame} frame */
 function sayOf({ state, inputs, marks, speed, typed, hasLastRoom }) {
-  const stop = field(state, AT.stop);
   const fast = speed ? `; ${(speed.perSecond / 1e6).toFixed(1)} million a second, busy ${(speed.busy * 100).toFixed(0)} %` : "";
   const waits = typed ? `; ${typed} typed or sent bytes wait` : "", last = hasLastRoom ? ", no more by time: the last is left for the end" : "";
   return `${many(countOf(state), "instruction")}, ${many(inputs, "input")}, ${many(marks, "checkpoint")}${last}${fast}${waits}` +
-    (stop ? `; stopped: ${STOPS[stop]}` : "");
+    (field(state, AT.stop) ? `; stopped ${stopText(state)}` : "");
 }

@@ -4,12 +4,13 @@
  * item is open in. */
 import { app } from "./app.js";
 import { branches, familyOf, NO_BRANCHES } from "./branches.js";
-import { attempt, button, el, many, messageOf, notice, paragraph, write } from "./elements.js";
+import { attempt, button, el, many, messageOf, named, notice, paragraph, plainName, set, write } from "./elements.js";
 import { INPUT_BYTES } from "./layout.js";
 import { runTo } from "./look.js";
 import { mayLeave, showOpened } from "./opening.js";
 import { Refusal } from "./requests.js";
-import { countOf, joined, MEMORY_BYTES, STATE_BYTES } from "./states.js";
+import { smallPicture } from "./screen.js";
+import { countOf, DISPLAY_AT, DISPLAY_BYTES, joined, MEMORY_BYTES, STATE_BYTES } from "./states.js";
 import { database, deleteStorage, storage, withKept, writtenAtOnce } from "./storage.js";
 import { offerToContinue } from "./welcome.js";
 import { Journal, locked, Work } from "./works.js";
@@ -109,6 +110,15 @@ export function noteTyped(codes) {
     for (const { typed } of journals) if (typed.includes(codes)) typed.splice(typed.indexOf(codes), 1);
     work.safe = Math.min(work.news, work.safe + 1);
   };
+}
+
+/** Notes that the machine takes no more of the serial bytes that were sent to it. `task` has it do so. What is sent meanwhile stays.
+ * @param {() => Promise<void>} task */
+export async function forgetSerial(task) {
+  const { work } = app, sent = work.journals.map(({ typed }) => [...typed]);
+  await task();
+  work.journals.forEach((journal, at) => journal.forgetSerial(sent[at] ?? []));
+  noteNew(work);
 }
 
 /** Notes that something came that is not kept, which is done soon.
@@ -295,11 +305,16 @@ async function readItem(id) {
 function summary(kept, since) {
   const id = kept?.id, isReadable = Boolean(kept) && isItem(kept);
   const unreadable = `What is kept as ${String(id).slice(0, MOST_NAME)} cannot be read: this page did not write it.`;
-  if (!isReadable) return { id, isReadable, text: unreadable };
-  const { family, number, parent, count, until = count, inputs: { length } } = merged(kept, since), branch = family === undefined ? "" : `, branch ${number}`;
-  const name = kept.name.slice(0, MOST_NAME), what = `${many(until, "instruction")}, ${many(length / INPUT_BYTES, "input")}`;
-  return { id, isReadable, name, family, number, parent, end: until, text: `${name}${branch}, of ${new Date(id).toLocaleString()}: ${what}` };
+  if (!isReadable) return { id, isReadable, name: "", text: unreadable };
+  const { family, number, parent, count, until = count, inputs: { length }, live } = merged(kept, since), branch = family === undefined ? "" : `, branch ${number}`;
+  const name = nameIn(kept), size = length + kept.recording?.length + (live ? MEMORY_BYTES : 0);
+  const what = `${many(until, "instruction")}, ${many(length / INPUT_BYTES, "input")}, ${(size / 1e6).toFixed(1)} MB`;
+  const dots = live?.words.slice(DISPLAY_AT, DISPLAY_AT + DISPLAY_BYTES);
+  return { id, dots, isReadable, name, family, number, parent, end: until, text: `${branch}, of ${new Date(id).toLocaleString()}: ${what}` };
 }
+
+/** @param {Labels} kept */
+const nameIn = ({ name }) => plainName(name.slice(0, MOST_NAME));
 
 /** Returns the summaries of all items, read one by one: they may be large. What came since an item was written is read before it. */
 export async function summaries() {
@@ -323,11 +338,13 @@ export async function summaries() {
 
 // The list
 
-/** @typedef {{ id: number, items: (Kept | KeptSince)[], text: string }} Forgotten */
+/** @typedef {{ id: number, items: (Kept | KeptSince)[], name: string, text: string }} Forgotten */
 
 /** @type {Map<number, Forgotten>} */
 const forgotten = new Map();
 let listing = 0;
+/** @type {Summary[]} */
+let offered = [];
 
 /** Shows what is kept and not open here, and what was forgotten since the page was opened. Of two at a time the later one counts. */
 export async function showKept() {
@@ -337,21 +354,34 @@ export async function showKept() {
   if (turn !== listing) return;
   const here = [app.work, ...branches.list].map(({ id }) => id), own = read instanceof Error ? [] : read.filter(({ id }) => !here.includes(id));
   const items = read instanceof Error ? [unreadable(read)] : own.map(keptItem);
+  offered = own;
+  set("forget-all", { hidden: !own.length });
   offerToContinue(own.filter(({ isReadable }) => isReadable));
-  write("kept-number", `Recordings kept in this browser: ${items.length || "none"}`);
+  write("kept-number", `Kept here: ${items.length || "none"}`);
   el("kept").hidden = !items.length && !forgotten.size;
   el("kept-list").replaceChildren(...[...[...forgotten.values()].map(forgottenItem), ...items].flat());
 }
 
 /** @param {Summary} item */
-function keptItem({ id, isReadable, text }) {
-  const resumed = isReadable ? [button("Resume", () => resume(id))] : [];
-  return [paragraph(text), ...resumed, button("Forget", () => unkeep(id, text))];
+function keptItem(item) {
+  const { id, isReadable, name, text, dots } = item, resumed = isReadable ? [button("Resume", () => resume(id))] : [], what = itemText("", name, text);
+  if (dots) what.prepend(smallPicture(dots));
+  return [what, ...resumed, button("Forget", () => unkeep(item))];
 }
 
 /** @param {Forgotten} item */
-function forgottenItem({ id, text }) {
-  return [paragraph(`Forgotten: ${text}`), button("Undo", () => unforget(id))];
+function forgottenItem({ id, name, text }) {
+  return [itemText("Forgotten: ", name, text), button("Undo", () => unforget(id))];
+}
+
+/** Returns the text of an item: a word before its name, and what it is.
+ * @param {string} before
+ * @param {string} name
+ * @param {string} text */
+function itemText(before, name, text) {
+  const made = paragraph(before);
+  made.append(named(name), text);
+  return made;
 }
 
 /** @param {Error} error */
@@ -380,8 +410,8 @@ export async function resumed(work, id, branchesOf) {
   try {
     const kept = /** @type {Kept} */ (work.left ? { ...work.labels, ...work.left } : await readItem(id));
     const others = await branchesOf(kept), answer = await app.live.ask("resume", { kept });
-    const { family, number = 1, parent = 0, until = kept.count, by = work.by } = kept, { generation, fork } = answer;
-    Object.assign(work, { name: kept.name.slice(0, MOST_NAME), generation, fork, family, number, parent, by, journals: [], left: null });
+    const { family, number = 1, parent = 0, until = kept.count, by = work.by } = kept, { generation, fork, program } = answer;
+    Object.assign(work, { name: nameIn(kept), generation, fork, program, family, number, parent, by, journals: [], left: null });
     Object.assign(work, { sent: kept.live ? kept.sent : "", isStored: isFree && until === kept.count && Boolean(kept.live), kept: "" });
     if (!isFree) Object.assign(work, { id: null, by: null });
     showOpened(answer, work, others);
@@ -394,18 +424,30 @@ export async function resumed(work, id, branchesOf) {
   if (!isFree) notice("This recording is open in another page: what you do here is kept as a copy.");
 }
 
-/**
- * @param {number} id
- * @param {string} text
- */
-async function unkeep(id, text) {
+/** @param {Summary} item */
+async function unkeep(item) {
+  if (!(await isForgotten(item))) throw new Refusal("This recording is open in another page, so it cannot be forgotten here.");
+  await showKept();
+}
+
+/** Forgets all that is offered. Each can be brought back, as one that is forgotten alone. */
+export async function forgetAll() {
+  const are = [];
+  for (const item of offered) are.push(await isForgotten(item));
+  await showKept();
+  if (are.includes(false)) notice("Recordings that are open in another page are not forgotten.");
+}
+
+/** Forgets an item, unless another page has it open. Returns whether it is forgotten.
+ * @param {Summary} item */
+async function isForgotten({ id, name, text }) {
   const lock = await locked(id);
-  if (!lock) throw new Refusal("This recording is open in another page, so it cannot be forgotten here.");
+  if (!lock) return false;
   const found = await itemsOf("readwrite", id, (store) => [id, sinceId(id)].map((key) => store.delete(key)));
   const items = /** @type {(Kept | KeptSince)[]} */ (found.filter(Boolean));
   lock.release();
-  if (items.length) forgotten.set(id, { id, items, text });
-  await showKept();
+  if (items.length) forgotten.set(id, { id, items, name, text });
+  return true;
 }
 
 /** @param {number} id */

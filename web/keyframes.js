@@ -1,7 +1,7 @@
 // @ts-check
 /* Keyframes of a run: its states, by their counts. A keyframe has a table of the ids of its 1,024 pages, and keyframes share equal
  * pages. */
-import { PAGE_BYTES, PAGES, STATE_BYTES } from "./states.js";
+import { hashOf, PAGE_BYTES, PAGES, STATE_BYTES } from "./states.js";
 
 const KEYFRAMES_BUDGET = 200e6;
 const PAGE_WORDS = PAGE_BYTES / 4, SLAB_PAGES = 1024;
@@ -24,19 +24,6 @@ class PagePool {
   /** The number of pages that are in use. */
   get length() {
     return this.uses.length - this.unused.length;
-  }
-
-  /**
-   * @param {Uint32Array} words
-   * @param {number} from
-   */
-  static hash(words, from) {
-    let hash = 0;
-    for (let at = from; at < from + PAGE_WORDS; at++) {
-      hash = Math.imul(hash ^ words[at], 0x9e3779b1);
-      hash ^= hash >>> 15;
-    }
-    return hash;
   }
 
   /** @param {number} id */
@@ -69,7 +56,7 @@ class PagePool {
    * @param {Uint32Array} words
    * @param {number} from */
   put(words, from) {
-    const hash = PagePool.hash(words, from), ids = this.byHash.get(hash) ?? [];
+    const hash = hashOf(words, from, from + PAGE_WORDS), ids = this.byHash.get(hash) ?? [];
     const same = ids.find((id) => this.isPage(id, words, from));
     if (same !== undefined) return this.use(same);
     const id = this.unused.pop() ?? this.uses.length;

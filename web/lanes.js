@@ -25,6 +25,11 @@ export const TIMELINE = {
     const { inputs } = machine, found = isBefore ? inputs.from(at) - 1 : inputs.from(at + 1);
     return found >= 0 && found < inputs.length ? inputs.count(found) : null;
   },
+  /** Returns the bytes that a checkpoint of the recording claims to be sent since the one before, or null if the recording is gone.
+   * @param {Requests["claimedOutput"][0]} given */
+  claimedOutput({ number, of }) {
+    return (of === generation && machine.recording?.claims[number]?.sent) || null;
+  },
   /** Returns the bytes of a page of memory that a checkpoint of the recording claims, or null if the recording is gone.
    * @param {Requests["claimedPage"][0]} given */
   claimedPage({ number, page, of }) {

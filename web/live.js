@@ -1,11 +1,12 @@
 // @ts-check
 /* The live worker: it runs the machine in turns, records it, and posts what the page shows. */
+import { Queue } from "./arrivals.js";
 import { Pace } from "./emulator.js";
 import { Feed } from "./feed.js";
 import { CHECKPOINT_LIMIT, readImage, readSession, writeSession } from "./formats.js";
 import { INPUT_BYTES } from "./layout.js";
 import { MOST_COUNT, Refused, unlessRefused } from "./library.js";
-import { AT, equalWords, field, joined, PER_SECOND, sentText, wordsOf } from "./states.js";
+import { AT, equalWords, field, hashOf, joined, last, PER_SECOND, sentText, wordsOf } from "./states.js";
 import { faultOf, library, machine } from "./station.js";
 
 const FRAME_MS = 1000 / 60, BUDGET_MS = 12, FIRST_CHUNK = 200000, LAG_MS = 100, PER_MS = PER_SECOND / 1000;
@@ -102,7 +103,7 @@ function post(sent, dots) {
   postMessage({
     state: machine.state.slice(), dots, listing: machine.listing(6, 14), sent: sentText(sent), generation, fork, fresh: fresh(), memory: library.size,
     on: run.on, isQuiet: run.on && isQuiet(), goal: run.goal ?? null, speed: run.on ? speedOf() : null, frames: run.frames ?? 0,
-    inputs: inputs.length, ahead: Math.max(0, given - next), marks: marks.length, planned: planned.length, typed: arrivals.typed,
+    inputs: inputs.length, ahead: Math.max(0, given - next), marks: marks.length, planned: planned.length, typed: arrivals.typed, serial: arrivals.serial.length,
     hasOwn: machine.isToKeep, inputRefusal, isReplay, isTrue, full, isAtLastCount, hasLastRoom,
   });
 }
@@ -239,7 +240,8 @@ function turnTo(to, deadline) {
     // A program that takes nothing now gets longer pieces.
     piece = machine.arrivals.typed < waited ? least : 2 * piece;
     const pieceEnd = waits && performance.now() < pieced ? machine.count + piece : Infinity;
-    const stop = Math.min(to, machine.nextStop(run.seconds), run.goal ?? Infinity, pieceEnd, machine.roomEnd, MOST_COUNT);
+    machine.foresee();
+    const stop = Math.min(to, machine.nextStop(run.seconds, machine.trueTo), run.goal ?? Infinity, pieceEnd, machine.roomEnd, MOST_COUNT);
     if (stop <= machine.count) break;
     const end = breaks.length ? breakBefore(stop) : stop;
     if (end > machine.count) sent.push(machine.advance(end)), reached();
@@ -260,13 +262,14 @@ function breakBefore(stop) {
 
 /** Records and judges a checkpoint if the machine has just come to one. */
 function reached() {
-  const { count } = machine, isPlanned = machine.planned.includes(count), step = (run.seconds) * PER_SECOND;
+  const passed = machine.pass(), { count } = machine, isPlanned = machine.planned.includes(count), step = (run.seconds) * PER_SECOND;
   if (isPlanned) machine.mark();
   else if (step && count % step === 0) mark();
   run.becameFull = machine.endIfFull();
-  const passed = machine.judge();
-  if (passed) postMessage({ passed });
-  if (isPlanned) feed?.keyframe(true);
+  const judged = last(passed)?.count === count ? null : machine.judge();
+  if (judged) passed.push(judged);
+  if (passed.length) postMessage({ passed });
+  if (isPlanned) feed?.checkpoint();
 }
 
 /** Records a checkpoint. Room for one is left for the end of the recording. */
@@ -289,15 +292,15 @@ function whyUnmarked() {
  * @param {() => void} begin
  * @returns {Opened} */
 function opened(kind, begin) {
-  const left = machine.recorder.bytes ? machine.kept() : null;
+  const left = machine.kept();
   begin();
   run = noRun();
   generation++;
   beginRun();
   feed?.begin(generation);
   show(NOTHING, true);
-  const { recording, planned, inputs } = machine;
-  return { kind, claims: recording?.claims.map((claim) => claim.count) ?? null, version: recording?.version, inputs: inputs.length,
+  const { recording, planned, inputs } = machine, program = hashOf(wordsOf(machine.firstOf(machine.recorder.bytes).words));
+  return { kind, program, claims: recording?.claims.map((claim) => claim.count) ?? null, version: recording?.version, inputs: inputs.length,
            checkpoints: planned.length, left, generation, fork };
 }
 
@@ -395,10 +398,15 @@ export const LIVE = {
   type({ keys = [], serial = [] }) {
     if (machine.inputRefusal) return machine.inputRefusal;
     wake();
-    for (const code of keys) machine.arrivals.keys.push(code);
-    for (const byte of serial) machine.arrivals.serial.push(byte);
+    machine.arrivals.keys.push(keys);
+    machine.arrivals.serial.push(serial);
     if (!run.on) show(NOTHING);
     return null;
+  },
+  /** Drops the serial bytes that wait. The page has heard of all that were taken by then. */
+  cancelSerial() {
+    machine.arrivals.serial = new Queue(NOTHING);
+    show(NOTHING);
   },
   /** Makes a checkpoint. Returns why there is no new one, or null. */
   mark() {
@@ -417,6 +425,12 @@ export const LIVE = {
   },
   recording() {
     return made(machine.recorded().bytes);
+  },
+  /** Returns the recording up to a moment of the past.
+   * @param {Start} given
+   * @returns {Made} */
+  recordingTo(given) {
+    return { bytes: machine.recordedTo(given), count: given.at, isWhole: true };
   },
   /** Returns what the browser keeps, or null if it keeps nothing. The page has heard of all inputs in it by then. */
   kept() {

@@ -10,10 +10,12 @@ import { showDevices } from "./devices.js";
 import { attempt, el, grouped, many, notice, set, write } from "./elements.js";
 import { dropSent, showLamps } from "./frames.js";
 import { showMemory } from "./memory.js";
-import { everySeconds } from "./running.js";
-import { drawSoon } from "./screen.js";
-import { showSearched } from "./search.js";
-import { AT, countOf, field, PER_SECOND, STATE_BYTES, STOPS } from "./states.js";
+import { isPlaying } from "./play.js";
+import { everySeconds, isToGoOn, setToGoOn } from "./running.js";
+import { drawSoon, endPreview } from "./screen.js";
+import { forgetFinding, showSearched } from "./search.js";
+import { AT, countOf, field, PER_SECOND, STATE_BYTES } from "./states.js";
+import { setGoal, stoppedAt, stopText } from "./stops.js";
 import { forgetAfter, keepInSight, lanes, showCursor } from "./timeline.js";
 import { showAsked, showWho } from "./who.js";
 
@@ -36,7 +38,10 @@ export const shownCount = () => look.at ?? nowCount();
 export const shownState = () => look.moment?.state ?? app.latest?.state ?? new Uint8Array(STATE_BYTES);
 
 /** Why keys, the mouse and the controls of devices have no effect while the past is looked at, or null. */
-export const inputRefusalInPast = () => (isPast() ? "PAST: nothing goes to the machine until you take over, or go back to now" : null);
+export function inputRefusalInPast() {
+  if (!isPast()) return null;
+  return look.at === stoppedAt() ? "STOPPED: a stopped machine takes no inputs" : "PAST: nothing goes to the machine until you take over, or go back to now";
+}
 
 /** @param {number} counts */
 export const secondsOf = (counts) => `${(counts / PER_SECOND).toFixed(3)} s`;
@@ -45,6 +50,12 @@ export const secondsOf = (counts) => `${(counts / PER_SECOND).toFixed(3)} s`;
 export function apart(at) {
   const counts = Math.abs(nowCount() - at);
   return counts < PER_SECOND / 20 ? many(counts, "instruction") : `${(counts / PER_SECOND).toFixed(1)} s`;
+}
+
+/** Forgets what is said of a count that is no longer looked at. */
+function forgetSaid() {
+  write("run-again-said", "");
+  forgetFinding();
 }
 
 /** Looks at a count. A machine that runs is paused first. A cursor that has not settled has more looks to come.
@@ -56,8 +67,9 @@ export async function lookAt(count, isSettled = true) {
   if (app.latest.on) await app.live.ask("setRun", { on: false });
   const at = Math.max(0, Math.min(Math.floor(count), lanes.end));
   if (at === nowCount()) return backToNow(isSettled);
+  endPreview();
   look = { ...look, at };
-  write("run-again-said", "");
+  forgetSaid();
   showLook(isSettled);
   const moment = await app.past.peek(at, { quick: !isSettled });
   if (moment && look.at === at) showMoment(moment);
@@ -67,6 +79,7 @@ export async function lookAt(count, isSettled = true) {
  * @param {number} goal */
 export async function runTo(goal) {
   look = NOW;
+  setGoal(goal);
   await app.live.ask("setRun", { on: true, fast: true, goal, seconds: everySeconds() });
 }
 
@@ -90,7 +103,8 @@ function saidOfAgain({ stopped, part }) {
  * @param {boolean} isSettled */
 export async function backToNow(isSettled = true) {
   look = NOW;
-  write("run-again-said", "");
+  forgetSaid();
+  write("when", "Registers");
   showLook(isSettled);
   if (!app.latest) return;
   el("nearly").hidden = true;
@@ -144,6 +158,7 @@ export async function takeOverHere() {
   look = NOW;
   closeCard();
   branchOff(at, await app.live.ask("takeOver", moment));
+  setToGoOn(true);
   forgetAfter(at);
   dropSent(now.sent - moment.sent);
   await backToNow();
@@ -153,21 +168,28 @@ export async function takeOverHere() {
 /** Says in one word what the machine's state is, and what that means.
  * @param {Frame} frame */
 export function showMode(frame) {
-  const { on, isReplay, isTrue } = frame, [word, text] = isPast() ? pastMode() : modeOf(frame);
-  write("run", isAhead() ? "Run to here" : on ? "Pause" : "Run");
+  const { on, isReplay, isTrue } = frame, [word, text] = isPast() ? pastMode(frame) : modeOf(frame);
+  write("run", isAhead() ? "Run to here" : on || isPlaying() ? "Pause" : isPast() ? "Play" : "Run");
   set("take-over", { hidden: !isReplay || isPast() });
   for (const name of ["take-here", "run-again"]) set(name, { hidden: !isPast() || isAhead() });
   set("back-now", { hidden: !isPast() });
-  write("name", app.work.generation ? app.work.name : "");
+  set("save-cursor", { hidden: !isPast() || isAhead() });
+  const name = app.work.generation ? app.work.name : "";
+  write("name", name);
+  set("name", { title: name });
   for (const name of ["make-checkpoint", "next"]) set(name, { disabled: isPast() });
+  set("make-checkpoint", { hidden: isPast() });
   write("state-word", word);
   set("state-word", { className: word.toLowerCase() });
   const claim = isTrue ? "" : " A claim that was passed is false: what comes after it is what the machine does.";
   write("mode-text", text + claim);
+  set("mode-text", { title: text + claim });
 }
 
-function pastMode() {
+/** @param {Frame} frame */
+function pastMode({ state }) {
   const far = apart(shownCount());
+  if (look.at === stoppedAt()) return ["STOPPED", `${stopText(state)}. The instruction at the cursor is the last one.`];
   if (!isAhead()) return ["PAST", `${far} before now. Keys do nothing.`];
   const claimed = app.file?.verdict?.status === 0 ? "as the file claims, which was checked" : "claimed, not checked";
   return ["REPLAY", `${far} ahead of the replay, ${look.moment?.isClaimed ? claimed : "not run yet"}. Keys do nothing.`];
@@ -175,13 +197,13 @@ function pastMode() {
 
 /** @param {Frame} frame */
 function modeOf({ state, on, isReplay, ahead, full, isAtLastCount }) {
-  const stop = field(state, AT.stop), left = ahead ? many(ahead, "input") : "Checkpoints";
+  const stop = field(state, AT.stop);
   const then = full?.isEnd ? "What comes after is not recorded." : "The machine takes no more.";
   if (full) return ["FULL", `at ${grouped(full.count)}: ${full.why}. ${then}`];
-  if (isReplay && !isAtLastCount) return ["REPLAY", `${left} of the file ${ahead === 1 ? "is" : "are"} still to come. Your own keys and mouse count once you take over.`];
+  if (isReplay && !isAtLastCount) return ["REPLAY", on ? "Playing the file. Take over to type." : "Run plays the file. Take over to type."];
   const never = ahead ? ` ${many(ahead, "input")} of the file at this count will never come.` : "";
-  if (stop) return ["STOPPED", `${STOPS[stop]}: the machine does nothing more.${never}`];
+  if (stop) return ["STOPPED", `${stopText(state)}. The machine does nothing more.${never}`];
   if (isAtLastCount) return ["FULL", `at ${grouped(countOf(state))}: no count comes after this one, so the machine does nothing more.${never}`];
   if (on) return ["LIVE", "What you type, click and send is recorded."];
-  return ["LIVE", "The machine is paused: keys and the mouse go to it while it runs."];
+  return ["PAUSED", isToGoOn ? "The machine goes on at the first key." : "Keys and the mouse go to the machine while it runs."];
 }

@@ -11,8 +11,10 @@ import {
   countOf, differingPages, DISPLAY_AT, DISPLAY_BYTES, equalWords, firstDifference, joined, KEY, last, MEMORY_BYTES, MOUSE,
   PER_SECOND, sentText, SERIAL, STATE_BYTES, wordsOf,
 } from "./states.js";
-import { firstTable, stretch } from "./stretches.js";
+import { areTrue, firstTable, stretch } from "./stretches.js";
 
+// Checkpoints of a file that are so near to one another are judged together: so many at a time, and within so many steps.
+const MOST_TOGETHER = 256, STEPS_TOGETHER = 1000000, LEAST_TOGETHER = 8;
 const QUEUE = 16, RECEIVED = 256;
 
 export class Machine extends Emulator {
@@ -35,6 +37,10 @@ export class Machine extends Emulator {
   recordingAt = 0;
   /** @type {Bytes[]} */
   sentSince = [];
+  // The number of its last claim that was passed, up to which count the claims after it are known to be true, and up to which one they were tried.
+  passed = 0;
+  trueTo = 0;
+  triedTo = 0;
 
   /** @param {Library} library */
   constructor(library) {
@@ -59,7 +65,8 @@ export class Machine extends Emulator {
    * @param {Memory & { inputs: Inputs, given: number, filed?: number, next: number, planned: number[], until?: number, waiting?: Waiting, isBranch?: boolean }} given */
   start({ state, words, inputs, given, filed = given, next, planned, until = 0, waiting, isBranch = false }) {
     this.put(this.address, { state, words });
-    Object.assign(this, { inputs, given, filed, next, planned, until, isBranch, falseAt: Infinity, sentSince: [], arrivals: new Arrivals(waiting) });
+    Object.assign(this, { inputs, given, filed, next, planned, until, isBranch, falseAt: Infinity, sentSince: [], trueTo: 0, triedTo: 0 });
+    this.arrivals = new Arrivals(waiting);
     this.sentTotal = this.recorder.sentTotal;
     this.arrivals.forgetMouse(this.part("mouse"));
   }
@@ -77,7 +84,8 @@ export class Machine extends Emulator {
       const { inputs, claims } = recording, planned = claims.slice(1).map((claim) => claim.count);
       this.forgetRecording();
       this.start({ ...claimed, inputs, given: inputs.length, next: checkpoint ? inputs.from(countOf(claimed.state)) : 0, planned });
-      Object.assign(this, { recordingAt, recording });
+      Object.assign(this, { recordingAt, recording, passed: checkpoint });
+      this.recorder.isOfFile = true;
     } catch (error) {
       this.library.leave(recordingAt);
       throw error;
@@ -165,7 +173,7 @@ export class Machine extends Emulator {
   /** The count at which what is played back is over: the inputs and the checkpoints of the file, or of what was kept. */
   get end() {
     const last = this.given ? this.inputs.count(this.given - 1) + 1 : 0;
-    return Math.max(last, this.planned.at(-1) ?? 0, this.until);
+    return Math.min(MOST_COUNT, Math.max(last, this.planned.at(-1) ?? 0, this.until));
   }
 
   /** Whether inputs or checkpoints that are played back are still to come. */
@@ -189,7 +197,7 @@ export class Machine extends Emulator {
     this.given = this.next;
     this.filed = Math.min(this.filed, this.next);
     this.isBranch ||= this.isKept;
-    this.until = 0;
+    this.until = this.trueTo = 0;
     this.planned = this.planned.filter((count) => count <= this.count);
     this.arrivals.forgetMouse(this.part("mouse"));
   }
@@ -257,8 +265,8 @@ export class Machine extends Emulator {
   feed() {
     const { keys, serial, typed } = this.arrivals;
     if (!typed || this.inputRefusal) return false;
-    for (let free = QUEUE - this.part("keys") - this.due(KEY); free > 0 && keys.length; free--) this.input(KEY, keys.splice(0, 1)[0]);
-    if (serial.length && !(this.part("serial") & RECEIVED) && !this.due(SERIAL)) this.input(SERIAL, serial.splice(0, 1)[0]);
+    for (let free = QUEUE - this.part("keys") - this.due(KEY); free > 0 && keys.length; free--) this.input(KEY, keys.take());
+    if (serial.length && !(this.part("serial") & RECEIVED) && !this.due(SERIAL)) this.input(SERIAL, serial.take());
     return this.arrivals.typed > 0;
   }
 
@@ -282,10 +290,11 @@ export class Machine extends Emulator {
   }
 
   /** Returns the next count at which to stop: that of a checkpoint that is planned, the end of a replay, or a checkpoint that is
-   * due by time.
-   * @param {number} seconds */
-  nextStop(seconds) {
-    if (this.isReplay) return this.planned.find((count) => count > this.count) ?? this.end;
+   * due by time. Checkpoints before a count are passed by.
+   * @param {number} seconds
+   * @param {number} from */
+  nextStop(seconds, from = 0) {
+    if (this.isReplay) return this.planned.find((count) => count > this.count && count >= from) ?? this.end;
     const step = seconds * PER_SECOND;
     return step ? (Math.floor(this.count / step) + 1) * step : Infinity;
   }
@@ -343,7 +352,38 @@ export class Machine extends Emulator {
   /** Extends the recording by a checkpoint at this count, if there is room for one. Returns whether there is a new checkpoint.
    * @param {number} most */
   mark(most = CHECKPOINT_LIMIT) {
-    return this.marks.length < most && this.recorder.extend(this.address, this.count, this.takenInputs);
+    const isMade = this.marks.length < most && this.recorder.extend(this.address, this.count, this.takenInputs);
+    // The recording is another than the file's from then on, so its next checkpoints are made one by one.
+    if (isMade && !this.planned.includes(this.count)) {
+      this.recorder.isOfFile = false;
+      this.trueTo = 0;
+    }
+    return isMade;
+  }
+
+  /** Has claims of the file that come soon after one another judged by one call of the check, before the machine runs past them. */
+  foresee() {
+    const { recording, passed, count } = this;
+    if (!recording || !this.isReplay || !this.isTrue || !this.recorder.isOfFile || count < this.triedTo) return;
+    const { claims } = recording, end = claims[passed].count + STEPS_TOGETHER;
+    let last = passed;
+    while (last + 1 < claims.length && last < passed + MOST_TOGETHER && claims[last + 1].count <= end) last++;
+    if (last < passed + LEAST_TOGETHER) return;
+    this.triedTo = claims[last].count;
+    if (areTrue(this.library, recording, passed, last)) this.trueTo = this.triedTo;
+  }
+
+  /** Passes the claims up to this count that are known to be true. Returns their numbers and counts.
+   * @returns {Passed[]} */
+  pass() {
+    const { recording, passed } = this, end = Math.min(this.count, this.trueTo);
+    let number = passed;
+    while (recording && number + 1 < recording.claims.length && recording.claims[number + 1].count <= end) number++;
+    if (!recording || number === passed) return [];
+    const claims = recording.claims.slice(passed + 1, number + 1), length = claims.reduce((sum, { sent }) => sum + sent.length, 0);
+    this.recorder.follow(recording, number);
+    Object.assign(this, { passed: number, sentSince: [joined(this.sentSince).slice(length)] });
+    return claims.map(({ count }, at) => ({ number: passed + 1 + at, count, part: null }));
   }
 
   /** Compares the recording's claim at this count with the machine. Returns its number, and the name of the first part that
@@ -355,7 +395,7 @@ export class Machine extends Emulator {
     this.library.claim(this.recordingAt, this.recording.bytes.length, number, this.other, this.other + STATE_BYTES);
     const own = { state: this.state, words: this.words, sent: joined(this.sentSince) };
     const part = firstDifference(own, { ...this.at(this.other), sent: this.recording.claims[number].sent });
-    this.sentSince = [];
+    Object.assign(this, { sentSince: [], passed: number });
     if (part) this.falseAt = Math.min(this.falseAt, this.count);
     return { number, count: this.count, part };
   }
@@ -380,6 +420,17 @@ export class Machine extends Emulator {
   recorded() {
     this.mark();
     return { bytes: this.recorder.bytes, count: this.marks.at(-1) ?? 0 };
+  }
+
+  /** Returns the recording up to a moment of the past, with a last checkpoint there, which is not in the recording in progress.
+   * @param {Start} moment */
+  recordedTo({ at, state, words, sent }) {
+    const recorder = new Recorder(this.library), { bytes, sent: since } = this.recorder;
+    recorder.resume(bytes, joined(since));
+    recorder.cut(at, sent);
+    this.put(this.other, { state, words });
+    recorder.extend(this.other, at, this.inputs.bytes.subarray(0, INPUT_BYTES * this.inputs.from(at)));
+    return recorder.bytes;
   }
 
   /** Returns the session up to here, with the checkpoints of the recording, the last one at this count; or, if there is no room for
@@ -408,7 +459,7 @@ export class Machine extends Emulator {
   /** Returns all of the machine but its state, which follows from the rest. */
   begun() {
     const { keys, serial } = this.arrivals, inputs = (this.isReplay ? this.takenInputs : this.inputs.bytes).slice();
-    return { ...this.recorder.kept, count: this.count, inputs, waiting: { keys: Uint8Array.from(keys), serial: Uint8Array.from(serial) } };
+    return { ...this.recorder.kept, count: this.count, inputs, waiting: { keys: keys.rest, serial: serial.rest } };
   }
 }
 

@@ -172,6 +172,12 @@ export class Past {
     return this.ask("stopSearch");
   }
 
+  /** Returns what changed in the cells of a span, as far as it is known.
+   * @param {Requests["changes"][0]} given */
+  changes(given) {
+    return this.ask("changes", given);
+  }
+
   /** Returns the counts of the keyframes, how many bytes they take, and how far the past is known. */
   keyframes() {
     return this.ask("keyframes");

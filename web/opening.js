@@ -5,18 +5,22 @@ import { branches, keepLeft, NO_BRANCHES, setBranches, showBranches } from "./br
 import { closeCard } from "./card.js";
 import { falseClaim, showClaim, showFalse, showOf } from "./claims.js";
 import { forgetBreaks } from "./code.js";
-import { attempt, el, grouped, notice, set, write } from "./elements.js";
+import { attempt, closeMenus, el, grouped, named, notice, plainName, set, write } from "./elements.js";
 import { beginShowing } from "./frames.js";
 import { followWork, inTurn, keep, leave } from "./kept.js";
+import { isPast, nowCount } from "./look.js";
 import { Refusal } from "./requests.js";
 import { setRun } from "./running.js";
 import { beginGame, isSnake } from "./snake.js";
+import { endPreview, preview } from "./screen.js";
 import { MEMORY_BYTES } from "./states.js";
 import { drawLanes } from "./timeline.js";
 import { verdicts } from "./verdicts.js";
 import { Work } from "./works.js";
 
-const LONGEST_READ = 118310057, LONGEST_FILE = 67108865;
+const LONGEST_READ = 118310057, LONGEST_FILE = 67108865, LATE_MS = 300;
+// How often something was chosen to be opened.
+let chosen = 0;
 
 // The sessions that the page contains, by their names.
 export const examples = () => JSON.parse(el("sessions").textContent ?? "{}");
@@ -32,8 +36,10 @@ export async function openChosen(chooser) {
 
 /** @param {File} file */
 export async function openFile(file) {
-  const most = /\.orsr$/i.test(file.name) ? LONGEST_READ : LONGEST_FILE;
-  await openBytes(file.name, new Uint8Array(await file.slice(0, most).arrayBuffer()));
+  const name = plainName(file.name), most = /\.orsr$/i.test(name) ? LONGEST_READ : LONGEST_FILE, number = ++chosen;
+  const bytes = new Uint8Array(await file.slice(0, most).arrayBuffer());
+  // A file that was chosen later counts, also if it was read sooner.
+  if (number === chosen) await openBytes(name, bytes);
 }
 
 /** Opens a file: a recording or a session by its name or its first bytes; anything else is a memory image. If it is refused, what
@@ -57,12 +63,12 @@ async function openBytes(name, bytes) {
  * @param {string} name
  * @param {string} line */
 export function showRefusal(name, line) {
-  write("refused-name", `The file ${name} is refused:`);
+  el("refused-name").replaceChildren("The file ", named(name), " is refused:");
   write("refused", line);
   write("refused-how", app.latest ? `${app.work.name} is still open.` : "");
 }
 
-function clearRefusal() {
+export function clearRefusal() {
   notice();
   for (const part of ["refused-name", "refused", "refused-how"]) write(part, "");
 }
@@ -84,7 +90,9 @@ const nameOf = (name) => name.replace(/\.[^.]*$/, "") || "live";
 
 /** Whether what is open may be left. If the browser cannot keep it, the user decides. */
 export async function mayLeave() {
+  const late = setTimeout(() => notice(`Waiting for the browser to keep the recording of ${app.work.name} ..`), LATE_MS);
   await keep();
+  clearTimeout(late);
   const question = `This browser cannot keep the recording of ${app.work.name}. Open another machine, and drop it?`;
   return !isAnyUnkept() || confirm(question);
 }
@@ -98,6 +106,7 @@ export const isAnyUnkept = () => [app.work, ...branches.list].some(({ isUnkept }
 async function openRecording(name, bytes) {
   if (!(await replaced(name, "openRecording", { bytes, checkpoint: 0 }))) return;
   nameFile(name, bytes);
+  await attempt(previewLast);
   await attempt(checkFile);
 }
 
@@ -109,9 +118,19 @@ async function openSession(name, bytes) {
   await replaced(name, "openSession", { bytes });
 }
 
+/** Shows the screen that the last checkpoint of the file claims, with a button that plays it. */
+async function previewLast() {
+  const { file, work: { generation } } = app, shown = file && (await app.live.ask("claimed", { number: file.checkpoints, of: generation }));
+  if (shown && generation === app.work.generation && isAtStart()) preview(shown.dots);
+}
+
+/** Whether the file that was opened was not run yet, and now is looked at. */
+const isAtStart = () => Boolean(app.latest && !app.latest.on && !nowCount() && !isPast());
+
 /** Has the file that is open checked, and shows the checkpoint that its line is about. */
 async function checkFile() {
   const { file } = app;
+  set("show-false", { hidden: true });
   await showClaim(0);
   if (!file || file !== app.file) return;
   const answer = await verdicts.file.check(file.name, file.bytes);
@@ -124,6 +143,7 @@ async function checkFile() {
 export async function showVerdict(file, answer) {
   file.verdict = answer;
   if (file !== app.file) return;
+  set("show-false", { hidden: !answer.wrong });
   showOf(file);
   attempt(showFalse);
   drawLanes();
@@ -136,10 +156,11 @@ export async function showVerdict(file, answer) {
  * @param {Bytes} bytes
  */
 function offerImage(name, bytes) {
+  if (!bytes.length) throw new Refusal("an empty file has nothing to open");
   if (bytes.length > MEMORY_BYTES)
     throw new Refusal(`${grouped(bytes.length)} bytes are not a recording, not a session and not an image of memory`);
   setImage({ name, bytes });
-  el("image-name").textContent = `${name}, ${grouped(bytes.length)} bytes,`;
+  el("image-name").replaceChildren(named(name), `, ${grouped(bytes.length)} bytes,`);
   el("image").hidden = false;
   el("image-address").focus();
 }
@@ -164,6 +185,7 @@ export function cancelImage() {
  * @param {{}} changes */
 export async function openExample(name, changes = {}) {
   clearRefusal();
+  chosen++;
   const bytes = new TextEncoder().encode(JSON.stringify({ ...examples()[name], ...changes }));
   if (await replaced(`${name}.json`, "openSession", { bytes })) await setRun(true);
 }
@@ -197,11 +219,13 @@ export function showOpened({ claims, version, inputs, checkpoints, left }, work,
   closeCard();
   verdicts.file.clear();
   verdicts.own.clear();
+  set("show-false", { hidden: true });
   clearRefusal();
   for (const name of ["claim", "passed"]) el(name).textContent = "";
+  endPreview();
   el("out").textContent = work.sent;
   el("image").hidden = true;
-  el("kept").open = false;
+  closeMenus();
   el("claims").hidden = !claims;
   el("pad").hidden = !isSnake();
   beginGame();

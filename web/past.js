@@ -2,6 +2,7 @@
 /* The past of the live machine: its state at any count, run again from a keyframe. A worker of its own looks, so that the live machine
  * is never held up; the live one's feed (feed.js) posts it what it needs. Looks come one after the other, and before each piece of a
  * search (searches.js). */
+import { Cells } from "./cells.js";
 import { copied } from "./emulator.js";
 import { KEYFRAME_MS, KEYFRAME_STEPS } from "./feed.js";
 import { Inputs } from "./formats.js";
@@ -9,7 +10,7 @@ import { Keyframes } from "./keyframes.js";
 import { Refused } from "./library.js";
 import { Claims, Replayer } from "./replayer.js";
 import { Searches } from "./searches.js";
-import { MEMORY_BYTES, PAGES, wordsOf } from "./states.js";
+import { joined, MEMORY_BYTES, PAGES, wordsOf } from "./states.js";
 import { Ended, isWhole, nextTask, unlessEnded } from "./tasks.js";
 
 // If a look takes longer, what is there comes first.
@@ -64,6 +65,7 @@ export class History {
     this.looker = new Replayer(library);
     this.searcher = new Replayer(library);
     this.searches = new Searches(this);
+    this.cells = new Cells(this);
   }
 
   // What the live machine says
@@ -92,6 +94,7 @@ export class History {
    * @param {Memory & { bytes: Bytes }} first */
   begin(generation, begun, { state, words, bytes }) {
     this.makeVoid();
+    this.cells.forgetAfter(-1);
     this.claims?.leave();
     const keyframes = new Keyframes(this.keyframes.budget), table = keyframes.tableOf(wordsOf(words));
     keyframes.add({ count: 0, state, table, sent: 0, isCheckpoint: true, isClaimed: false });
@@ -103,6 +106,7 @@ export class History {
    * @param {number} count */
   cut(count) {
     this.makeVoid();
+    this.cells.forgetAfter(count);
     this.keyframes.forgetAfter(count);
     this.begun = Math.min(this.begun, count);
     if (this.cursor !== null && this.cursor > count) Object.assign(this, { cursor: null, isSettled: true });
@@ -296,6 +300,21 @@ export class History {
   memory({ generation, at, from, length }) {
     if (!(isWhole(from) && isWhole(length) && from + length <= MEMORY_BYTES)) throw new Refused("these bytes are beyond the memory");
     return this.reached({ generation, at }, (looker) => ({ at, bytes: looker.words.slice(from, from + length) }));
+  }
+
+  /** Returns the bytes that the machine sent from one count up to another.
+   * @param {Requests["output"][0]} given
+   * @returns {Promise<{ bytes: Bytes } | null>} */
+  output({ generation, at, from }) {
+    return this.look({ generation, at }, async (turn) => {
+      const { looker } = this, parts = [];
+      await this.reach(looker, from, turn, { mayBeClaimed: this.mayBeClaimed(at) });
+      while (looker.count < at) {
+        parts.push(looker.advance(this.inputs, at));
+        await turn();
+      }
+      return { bytes: joined(parts) };
+    });
   }
 
   /** Returns all that the live machine needs to go on from a count: state, words, and how many bytes were sent.

@@ -12,7 +12,11 @@ import { firstTable, stretch } from "./stretches.js";
 const MOST_SENT = 1 << 20, SENT_RESERVE = 1 << 16, MOST_POOL = 65536;
 
 export class Recorder {
-  bytes = new Uint8Array();
+  made = new Uint8Array();
+  // Whether its checkpoints are those of the file that is played back, and up to which of them it is still to be cut from the file.
+  isOfFile = false;
+  /** @type {{ recording: Recording, number: number } | null} */
+  uncut = null;
   // The counts of its checkpoints, how many inputs it has, and how many bytes were sent up to its last checkpoint.
   /** @type {number[]} */
   marks = [];
@@ -30,6 +34,27 @@ export class Recorder {
     this.library = library;
   }
 
+  /** The recording so far. */
+  get bytes() {
+    if (this.uncut) this.made = stretch(this.uncut.recording, firstTable(this.uncut.recording), 0, this.uncut.number);
+    this.uncut = null;
+    return this.made;
+  }
+
+  /** Goes on to a checkpoint of the file, which is true, as are all before it: the recording so far is the file's up to there.
+   * @param {Recording} recording
+   * @param {number} number */
+  follow(recording, number) {
+    const passed = recording.claims.slice(this.marks.length + 1, number + 1), length = passed.reduce((sum, { sent }) => sum + sent.length, 0);
+    const rest = joined(this.sent).slice(length);
+    this.uncut = { recording, number };
+    this.marks.push(...passed.map(({ count }) => count));
+    this.taken = recording.inputs.from(recording.claims[number].count);
+    this.sentBefore += length;
+    this.forgetSent();
+    this.note(rest);
+  }
+
   /** Begins with the state and the words at an address. The state's count is 0.
    * @param {number} address */
   begin(address) {
@@ -41,7 +66,7 @@ export class Recorder {
    * @param {Bytes} sent */
   resume(bytes, sent) {
     const { claims, inputs } = readRecording(bytes);
-    this.bytes = bytes;
+    Object.assign(this, { made: bytes, uncut: null, isOfFile: false });
     this.marks = claims.slice(1).map((claim) => claim.count);
     this.taken = inputs.length;
     this.full = null;
@@ -105,7 +130,7 @@ export class Recorder {
   extend(address, count, inputs) {
     if (this.full || count <= (this.marks.at(-1) ?? 0)) return false;
     try {
-      this.bytes = this.library.extend(this.bytes, inputs.subarray(INPUT_BYTES * this.taken), address, joined(this.sent));
+      this.made = this.library.extend(this.bytes, inputs.subarray(INPUT_BYTES * this.taken), address, joined(this.sent));
     } catch (error) {
       if (!(error instanceof Refused)) throw error;
       this.end(error.message);

@@ -40,13 +40,14 @@ export class Replayer extends Emulator {
     Object.assign(this, { isSet: true, isClaimed: number > 0, sent: claims.sent[number] });
   }
 
-  /** Runs up to a count, or as far as one call goes.
+  /** Runs up to a count, or as far as one call goes. Returns what the machine sent.
    * @param {Inputs} inputs
    * @param {number} to */
   advance(inputs, to) {
-    const { count } = this, begun = performance.now();
-    this.sent += this.run(inputs, inputs.from(count), Math.min(to, count + this.running.steps)).length;
+    const { count } = this, begun = performance.now(), sent = this.run(inputs, inputs.from(count), Math.min(to, count + this.running.steps));
+    this.sent += sent.length;
     this.running.took(this.count - count, performance.now() - begun);
+    return sent;
   }
 
   /** Returns about how many ms it takes to a count.

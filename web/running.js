@@ -6,14 +6,27 @@ import { catchUp } from "./devices.js";
 import { el, notice } from "./elements.js";
 import { followWork } from "./kept.js";
 import { nowCount } from "./look.js";
+import { forgetFinding } from "./search.js";
+import { setGoal } from "./stops.js";
 
 export const isFast = () => el("speed").value === "fast";
 
 export const everySeconds = () => Math.max(0, Math.min(3600, Math.floor(Number(el("each").value)) || 0));
 
+// Whether a machine that was taken over goes on at the first key.
+export let isToGoOn = false;
+
+/** @param {boolean} is */
+export function setToGoOn(is) {
+  isToGoOn = is;
+}
+
 /** @param {boolean} isOn */
 export async function setRun(isOn) {
   notice();
+  isToGoOn = false;
+  forgetFinding();
+  setGoal(-1);
   await app.live.ask("setRun", { on: isOn, fast: isFast(), seconds: everySeconds() });
   if (!isOn) return;
   el("screen").focus({ preventScroll: true });
@@ -29,6 +42,7 @@ export async function mark() {
 /** Ends a replay where it is. What is kept already stays as it is, as a branch. */
 export async function takeOver() {
   notice();
+  isToGoOn = !app.latest?.on;
   const answer = await app.live.ask("takeOver");
   if (app.work.id !== null) branchOff(nowCount(), answer);
   else await followWork(Object.assign(app.work, { fork: answer.fork, journals: [] }));

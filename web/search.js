@@ -21,6 +21,11 @@ const WANTED = [
 /** @type {{ isOn: boolean, request: number, begun: number, conditions: Condition[] | null, hit: { at: number, conditions: Condition[] } | null }} */
 export let finding = { isOn: false, request: 0, begun: 0, conditions: null, hit: null };
 
+/** Forgets what a search that is over said. */
+export function forgetFinding() {
+  if (!finding.isOn) write("found", "");
+}
+
 /** Forgets where something was found last. */
 export function forgetFound() {
   finding = { ...finding, hit: null };
@@ -73,8 +78,8 @@ export async function foundAt({ at, which }, conditions) {
   const what = conditionText(conditions[which] ?? conditions[0]);
   finding = { ...finding, hit: { at, conditions } };
   noteHit(at, what);
-  showFinding(`${what} at ${grouped(at)}`);
   await lookAt(at);
+  if (finding.hit?.at === at) showFinding(`${what} at ${grouped(at)}`);
   return at;
 }
 
@@ -125,8 +130,8 @@ function conditionsOfForm() {
 }
 
 const FORMS = {
-  PC: "PC is a word number, or two as in 20-30.",
-  address: "an address is hexadecimal, or two as in E8000-E8003.",
+  PC: "PC is a word number, hexadecimal after 0x, or two as in 20-30.",
+  address: "an address is hexadecimal, ·32 for the word 32, or two as in E8000-E8003.",
   register: "a register is R0 to R15, H or flags.",
 };
 const FLAGS = 17, LAST_PC = 1 << 22, LAST_ADDRESS = 1 << 24;
@@ -139,11 +144,18 @@ function rangeOf(text, about) {
     const from = text.toUpperCase() === "FLAGS" ? FLAGS : [...REGISTERS, "H"].indexOf(text.toUpperCase());
     return from < 0 ? null : { from, end: from + 1 };
   }
-  const isHex = about === "address", pattern = isHex ? /^(?:0x)?([0-9a-f]+)(?:-(?:0x)?([0-9a-f]+))?$/i : /^(\d+)(?:-(\d+))?$/;
-  const found = pattern.exec(text.trim());
-  if (!found) return null;
-  const [from, last] = [found[1], found[2] ?? found[1]].map((digits) => parseInt(digits, isHex ? 16 : 10));
-  return from <= last && last < (isHex ? LAST_ADDRESS : LAST_PC) ? { from, end: last + 1 } : null;
+  const isAddress = about === "address", [from, last, ...more] = text.split("-").map((one) => placeOf(one, isAddress)), end = last ?? from;
+  return !more.length && from <= end && end < (isAddress ? LAST_ADDRESS : LAST_PC) ? { from, end: end + 1 } : null;
+}
+
+/** Returns the place that was written: an address, in bytes, or a word number. `0080 · 32` is both at once.
+ * @param {string} text
+ * @param {boolean} isAddress */
+function placeOf(text, isAddress) {
+  const word = /^(?:[0-9a-f]+ *)?· *(\d+)$/i.exec(text.trim());
+  if (word) return isAddress ? 4 * Number(word[1]) : Number(word[1]);
+  const digits = (isAddress ? /^(?:0x)?([0-9a-f]+)$/i : /^(0x[0-9a-f]+|\d+)$/i).exec(text.trim());
+  return digits ? Number(isAddress ? `0x${digits[1]}` : digits[1]) : NaN;
 }
 
 /** Returns the value that was written: a number, or the code of a character in quotes.

@@ -7,7 +7,7 @@ import { copied, Pace } from "./emulator.js";
 import { INPUT_BYTES } from "./layout.js";
 import { Refused } from "./library.js";
 import { CALL_MS } from "./replayer.js";
-import { AT, field, firstDifference, KEY, MEMORY_BYTES, MOUSE, SERIAL, SWITCHES } from "./states.js";
+import { AT, field, firstDifference, KEY, MEMORY_BYTES, MOUSE, SERIAL, SWITCHES, WORDS } from "./states.js";
 import { Ended, isWhole, nextTask, unlessEnded } from "./tasks.js";
 
 // What sets the parts of a state that are of devices: inputs of a kind, or accesses to a device word, by its address.
@@ -140,6 +140,7 @@ export class Searches {
    * @param {About} about
    * @returns {(before: number, search: Search) => Promise<Written>} */
   finderOf({ register, device, ...bits }) {
+    if (device === "stop") return (before, search) => this.whoStopped(before, search);
     if (device !== undefined) {
       const part = deviceOf(device);
       return (before, search) => this.whoSetDevice(part, before, search);
@@ -297,7 +298,7 @@ export class Searches {
     const { history } = this, { searcher } = history;
     await history.reach(searcher, at, search.turn);
     const pc = searcher.part("PC");
-    return { at, pc, word: searcher.word(pc), state: searcher.state.slice() };
+    return { at, pc, word: pc < WORDS ? searcher.word(pc) : undefined, state: searcher.state.slice() };
   }
 
   /**
@@ -311,6 +312,16 @@ export class Searches {
     await history.reach(searcher, before, search.turn);
     const value = registerIn(searcher.state, register);
     const hit = await this.findLast(0, before, [{ kind: BECOMES, from: register, value }], search);
+    return hit ? this.instructionAt(hit.at, search) : { initial: true };
+  }
+
+  /** Finds the instruction that stopped the machine. After it nothing changes, so it is in the last gap between keyframes that begins before.
+   * @param {number} before
+   * @param {Search} search
+   * @returns {Promise<Written>} */
+  async whoStopped(before, search) {
+    const gap = await this.gapOfPart(AT.stop, before, search), conditions = [{ kind: STOP, from: 0, end: 1, value: 0 }];
+    const hit = gap && (await this.findFirst(gap.from, gap.to, conditions, search));
     return hit ? this.instructionAt(hit.at, search) : { initial: true };
   }
 

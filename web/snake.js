@@ -8,10 +8,10 @@ import { isRunning, sendCodes } from "./devices.js";
 import { attempt, button, el, grouped, made, many, paragraph } from "./elements.js";
 import { CHANGE_BYTES, CLAIM, HEADER, HEADER_BYTES, INPUT, INPUT_BYTES } from "./layout.js";
 import { backToNow, lookAt, nowCount, shownState } from "./look.js";
-import { openExample } from "./opening.js";
+import { examples, openExample } from "./opening.js";
 import { Helper } from "./requests.js";
 import { setRun } from "./running.js";
-import { AT, field, hex, KEY, PAGE_BYTES, PER_SECOND } from "./states.js";
+import { AT, field, hashOf, hex, KEY, MEMORY_BYTES, PAGE_BYTES, PER_SECOND, wordsOf } from "./states.js";
 import { STATUSES } from "./verdicts.js";
 
 const SNAKE = "snake", FIRST_LENGTH = 3, OVER = "over\n", BEFORE_CRASH = PER_SECOND, CHEATED = 100;
@@ -20,7 +20,20 @@ export const ARROWS = { ArrowUp: "w", ArrowLeft: "a", ArrowDown: "s", ArrowRight
 // How long the snake is, as the LEDs said last.
 let snakeLength = FIRST_LENGTH;
 
-export const isSnake = () => app.work.name === SNAKE;
+let snakeProgram = 0;
+/** Whether the machine began with the memory of the game, whatever its recording is called. */
+export function isSnake() {
+  snakeProgram ||= hashOf(wordsOf(memoryOf(examples()[SNAKE])));
+  return app.work.program === snakeProgram;
+}
+
+/** Returns the memory of a session that the page contains.
+ * @param {{ pages: { at: number, hex: string }[] }} session */
+function memoryOf({ pages }) {
+  const memory = new Uint8Array(MEMORY_BYTES);
+  for (const { at, hex: digits } of pages) memory.set((digits.match(/../g) ?? []).map((byte) => parseInt(byte, 16)), PAGE_BYTES * at);
+  return memory;
+}
 
 /** Returns the points of a snake, whose length the LEDs show.
  * @param {number} length */
@@ -44,7 +57,8 @@ export function followGame({ state, sent, on, isReplay }, wasReplay) {
   if (!isSnake() || isReplay || wasReplay) return;
   if (sent && app.work.sent.endsWith(OVER)) return attempt(endGame);
   if (!on) return;
-  const length = field(state, AT.LEDs);
+  // A program that has just begun shows nothing yet.
+  const length = Math.max(FIRST_LENGTH, field(state, AT.LEDs));
   if (length > snakeLength) send("mark", {});
   snakeLength = length;
 }

@@ -1,21 +1,21 @@
 // @ts-check
 /* Starts the page: its workers, and what its controls do. */
 import { app, setMachine } from "./app.js";
-import { askPart, makeRegisters, showClaim } from "./claims.js";
+import { askPart, makeRegisters, showClaim, showMe } from "./claims.js";
 import {
-  compose, enterSends, letGo, listenToKeyboard, makeDevices, mouseByFields, pointed, pressed, sendSerial, switched,
+  cancelSerial, compose, enterSends, letGo, listenToKeyboard, makeDevices, mouseByFields, pointed, pressed, sendFile, sendSerial, switched,
 } from "./devices.js";
-import { attempt, el, messageOf, notice, on } from "./elements.js";
+import { attempt, closeMenus, el, messageOf, notice, on, plainName } from "./elements.js";
 import { heard } from "./frames.js";
-import { isUnsafe, keep, KEEP_MS, keepAtOnce, showKept } from "./kept.js";
+import { forgetAll, isUnsafe, keep, KEEP_MS, keepAtOnce, showKept } from "./kept.js";
 import { heardPast } from "./look.js";
 import { listenToMemory } from "./memory.js";
 import { Past } from "./moments.js";
-import { cancelImage, isAnyUnkept, openChosen, openExample, openFile, openImage, runOnFrom } from "./opening.js";
+import { cancelImage, clearRefusal, isAnyUnkept, openChosen, openExample, openFile, openImage, runOnFrom } from "./opening.js";
 import { unpacked } from "./packed.js";
 import { Helper, placeWorker } from "./requests.js";
-import { everySeconds, isFast, mark, takeOver } from "./running.js";
-import { saveRecording, saveSession } from "./saving.js";
+import { everySeconds, isFast, mark, setRun, takeOver } from "./running.js";
+import { saveRecording, saveSession, saveToCursor } from "./saving.js";
 import { fitScreen, savePicture, showFull } from "./screen.js";
 import { listenToSearch } from "./search.js";
 import { padPressed, playSnake } from "./snake.js";
@@ -23,7 +23,6 @@ import { showTab, tabByKey, TABS } from "./tabs.js";
 import { drawLanes, freshen, makeTimeline, measureTrack } from "./timeline.js";
 import { listenToTime } from "./transport.js";
 import { verdicts } from "./verdicts.js";
-import { welcome } from "./welcome.js";
 
 function listen() {
   listenToFiles();
@@ -55,6 +54,10 @@ function listenToFiles() {
   on("image-cancel", "click", cancelImage);
   on("save-session", "click", saveSession);
   on("save-recording", "click", saveRecording);
+  on("save-cursor", "click", saveToCursor);
+  on("show-false", "click", showMe);
+  on("big-run", "click", () => setRun(true));
+  on("forget-all", "click", forgetAll);
   on("stop", "click", () => verdicts.file.stop());
   on("own-stop", "click", () => verdicts.own.stop());
   on("claim-number", "change", ({ target }) => showClaim(Number(target.value)));
@@ -72,6 +75,8 @@ function listenToDevices() {
   on("mouse", "change", mouseByFields);
   on("serial-form", "submit", sendSerial);
   on("serial", "keydown", enterSends);
+  on("serial-file", "change", ({ target }) => sendFile(target));
+  on("serial-cancel", "click", cancelSerial);
   for (const type of ["keydown", "keyup"]) on("screen", type, pressed);
   on("screen", "blur", letGo);
   for (const type of ["pointermove", "pointerdown", "pointerup", "pointercancel"]) on("screen", type, pointed);
@@ -80,10 +85,12 @@ function listenToDevices() {
 }
 
 function listenToWindow() {
+  addEventListener("pointerdown", ({ target }) => closeMenus(target));
+  document.querySelector(".refusal")?.addEventListener("click", clearRefusal);
   addEventListener("resize", showSized);
   addEventListener("fullscreenchange", showSized);
   const above = new ResizeObserver(fitScreen);
-  for (const name of ["kept", "image", "verdicts"]) above.observe(el(name));
+  for (const part of [el("stay"), document.querySelector("#galluspa .top")]) if (part) above.observe(part);
   setInterval(() => keep(true), KEEP_MS);
   document.addEventListener("visibilitychange", () => (attempt(keepAtOnce), keep()));
   addEventListener("pagehide", () => attempt(keepAtOnce));
@@ -105,8 +112,11 @@ function dropFiles() {
   addEventListener("dragover", (event) => event.preventDefault());
   addEventListener("drop", (event) => {
     event.preventDefault();
-    const [file] = event.dataTransfer?.files ?? [];
-    if (file) attempt(() => openFile(file));
+    const [file, ...more] = event.dataTransfer?.files ?? [];
+    if (file) attempt(async () => {
+      await openFile(file);
+      if (more.length) notice(`Of ${more.length + 1} files that were dropped the first one is opened: ${plainName(file.name)}.`);
+    });
   });
 }
 
@@ -136,6 +146,5 @@ export async function started() {
 export async function begin() {
   if (!(await started())) return;
   document.body.dataset.ready = "yes";
-  welcome();
   await showKept();
 }

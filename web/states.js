@@ -86,6 +86,19 @@ export function partsOf(state) {
   ];
 }
 
+/** Returns a number that is another one for nearly all other words.
+ * @param {Uint32Array} words
+ * @param {number} from
+ * @param {number} end */
+export function hashOf(words, from = 0, end = words.length) {
+  let hash = 0;
+  for (let at = from; at < end; at++) {
+    hash = Math.imul(hash ^ words[at], 0x9e3779b1);
+    hash ^= hash >>> 15;
+  }
+  return hash;
+}
+
 /**
  * @param {Bytes} some
  * @param {Bytes} others

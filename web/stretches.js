@@ -42,6 +42,24 @@ export function firstTable(recording) {
   return table;
 }
 
+/** Returns the table of a checkpoint.
+ * @param {Recording} recording
+ * @param {number} number */
+function tableAt(recording, number) {
+  const table = firstTable(recording);
+  for (const claim of recording.claims.slice(1, number + 1)) for (const [slot, id] of changesOf(recording, claim, table)) table[slot] = id;
+  return table;
+}
+
+/** Whether the checkpoints of a recording after one and up to another are true if that one is, by one call of the proved check.
+ * @param {Library} library
+ * @param {Recording} recording
+ * @param {number} first
+ * @param {number} last */
+export function areTrue(library, recording, first, last) {
+  return library.check(stretch(recording, tableAt(recording, first), first, last)).status === 0;
+}
+
 /** Returns the recording between two checkpoints, in version 2. Its initial state is what the first one claims, its counts and inputs begin at 0
  * again, and its pool has the pages that it names, in the order in which it names them. `table` is the table of the first checkpoint, and becomes
  * that of the last.

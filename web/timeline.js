@@ -4,31 +4,36 @@ import { app } from "./app.js";
 import { drawBranches } from "./branches.js";
 import { falseClaim } from "./claims.js";
 import { forgetHits, hitMarks } from "./code.js";
-import { attempt, el, grouped, made, set, write } from "./elements.js";
+import { attempt, el, grouped, made, many, set, write } from "./elements.js";
 import { apart, isAhead, isPast, lookAt, nowCount, secondsOf, shownCount } from "./look.js";
 import { LINES } from "./screen.js";
 import { countOf, hex, PER_SECOND } from "./states.js";
 
-const LANES = ["claims", "keys", "mouse", "serial", "screen", "marks", "film"];
-const ROW = 17, AXIS = 17, MERGED = 28, LEAST_SPAN = 16, MOST_NOTED = 20000, SENT_SHOWN = 40, GLYPH_WIDTH = 6, FINGER_MOVE = 6, LISTED = 40;
+const LANES = ["checkpoints", "keys", "mouse", "serial", "screen", "hits", "keyframes"];
+// So many lanes have room, also if fewer have something: the screen does not change its size for each one.
+const LEAST_LANES = 4;
+const ROW = 16, AXIS = 16, MERGED = 28, LEAST_SPAN = 16, GLYPH_WIDTH = 6, HATCH = 6, FINGER_MOVE = 6, LISTED = 40;
+// The span has about so many cells.
+const CELLS = 100;
 export const FRESH_MS = 200, FOLLOW_MS = 2000, FILM_MS = 2000, TICK_WIDTH = 76, ZOOM = 1.6;
 
 /** Where a lane is drawn.
  * @typedef {{ pen: CanvasRenderingContext2D, colour: (name: string) => string, width: number, y: number, high: number }} Place */
 
 // What the lanes show. `end` is the last count that is known of: that of now, or of the file.
-// `sent` and `painted` are noted while the machine runs, `passed` are the claims that a replay has judged, and `film` the counts of
-// the keyframes. It is replaced whole when another machine is opened.
+// `cells` are the parts of the span of which it is known what changed in them, `passed` are the claims that a replay has judged, and `film` the
+// counts of the keyframes. It is replaced whole when another machine is opened.
 /** @type {Lanes} */
 const NOTHING_FOUND = { keys: [], mouse: new Uint8Array(), serial: new Uint8Array(), listed: { keys: [], mouse: [], serial: [] }, marks: [], planned: [], end: 0 };
-/** @returns {{ end: number, found: Lanes, sent: [number, string][], painted: [number, number][], passed: Map<number, string>, film: number[] }} */
-const newLanes = () => ({ end: 0, found: NOTHING_FOUND, sent: [], painted: [], passed: new Map(), film: [] });
+// `rows` are the lanes that have something, or had.
+/** @returns {{ end: number, found: Lanes, cells: Cell[], passed: Map<number, string>, film: number[], rows: string[] }} */
+const newLanes = () => ({ end: 0, found: NOTHING_FOUND, cells: [], passed: new Map(), film: [], rows: [LANES[LANES.length - 1]] });
 export let lanes = newLanes();
 // The span that is shown, and how it is used: `isAsked` while the worker is asked for its lanes, `isStale` if they are wanted again,
 // `asked` says what they depend on as they were asked last, and `pointers` are those on the track, with where they are. A finger looks
 // at the count that it `pressed` only once it moves or is lifted, since another may come with it. `drawn` is when the lanes were drawn.
 const timeline = {
-  from: 0, to: PER_SECOND, isWhole: true, isDragged: false, isAsked: false, isStale: false, asked: "", due: 0, filmDue: 0, drawn: 0, columns: 1,
+  from: 0, to: PER_SECOND, isWhole: true, isDragged: false, isAsked: false, isStale: false, asked: "", due: 0, filmDue: 0, changing: 0, drawn: 0, columns: 1,
   pressed: /** @type {number | null} */ (null), pointers: /** @type {Map<number, number>} */ (new Map()),
 };
 
@@ -47,15 +52,14 @@ export function forgetAfter(at) {
   const passed = new Map([...lanes.passed].filter(isBefore));
   forgetHits(at);
   for (const item of el("passed").querySelectorAll("li")) if (Number(item.dataset.count) > at) item.remove();
-  lanes = { ...lanes, end: at, sent: lanes.sent.filter(isBefore), painted: lanes.painted.filter(isBefore), passed };
+  lanes = { ...lanes, end: at, cells: lanes.cells.filter(({ end }) => end <= at), passed };
   freshen(true);
 }
 
 /** Notes what a frame of the live machine brings for the lanes.
  * @param {Frame} frame */
-export function noteFrame({ state, sent, on }) {
+export function noteFrame({ state, on }) {
   const count = countOf(state);
-  if (sent) note(lanes.sent, [count, sent.slice(0, SENT_SHOWN)]);
   if (count > lanes.end) lanes.end = count;
   freshen(!on);
 }
@@ -72,22 +76,6 @@ export function notePassed(count, isTrue) {
 export function noteChecked(last) {
   for (const count of lanes.found.marks) if (count <= last) lanes.passed.set(count, "true");
   drawLanes();
-}
-
-/** Notes how many lines of the screen changed, up to now.
- * @param {number} lines */
-export function noteChange(lines) {
-  if (lines && !isPast() && app.latest) note(lanes.painted, [nowCount(), lines]);
-}
-
-/**
- * @template T
- * @param {T[]} list
- * @param {T} entry
- */
-function note(list, entry) {
-  list.push(entry);
-  if (list.length > MOST_NOTED) list.splice(0, list.length, ...list.filter((_, at) => at % 2 === 0));
 }
 
 // The span
@@ -184,10 +172,39 @@ async function askFilm() {
   const now = performance.now();
   if (app.latest?.on && now < timeline.filmDue) return;
   timeline.filmDue = now + FILM_MS;
+  attempt(askChanges);
   const film = await app.past.keyframes();
   if (!film || film.counts.length === lanes.film.length) return;
   lanes = { ...lanes, film: film.counts };
   drawLanes();
+}
+
+/** Asks what changed in the cells of the span: again until all of them are known, or, while the machine runs, with the keyframes. */
+async function askChanges() {
+  const number = ++timeline.changing, { generation } = app.work;
+  for (let isDone = false; !isDone && number === timeline.changing && app.latest;) {
+    const { from, to } = timeline, isOn = app.latest.on, size = tickStep((to - from) / CELLS);
+    const found = await app.past.changes({ from, to, size, now: nowCount(), isOn });
+    if (!found || generation !== app.work.generation || number !== timeline.changing) return;
+    lanes = { ...lanes, cells: found.cells };
+    isDone = found.isDone || isOn;
+    drawLanes();
+    if (isDone && !isOn) listLanes();
+  }
+}
+
+/** Returns the parts of the span, as far as the machine's end is known, of which it is not known what changed in them.
+ * @returns {[number, number][]} */
+function unknownParts() {
+  /** @type {[number, number][]} */
+  const parts = [];
+  let at = Math.max(0, timeline.from);
+  for (const { from, end } of lanes.cells) {
+    if (from > at) parts.push([at, from]);
+    at = Math.max(at, end);
+  }
+  const end = Math.min(timeline.to, Math.max(lanes.end, nowCount()));
+  return end > at ? [...parts, [at, end]] : parts;
 }
 
 // Drawing
@@ -197,7 +214,8 @@ export const isNarrow = () => matchMedia("(max-width: 36rem)").matches;
 /** Draws all lanes, one below the other; or merged to one in a narrow window. */
 export function drawLanes() {
   timeline.drawn = performance.now();
-  const canvas = el("lanes"), width = columns(), height = AXIS + (isNarrow() ? MERGED : ROW * LANES.length);
+  findRows();
+  const canvas = el("lanes"), width = columns(), height = AXIS + (isNarrow() ? MERGED : ROW * Math.max(LEAST_LANES, lanes.rows.length));
   const [wide, high] = [width, height].map((points) => Math.round(points * devicePixelRatio));
   if (canvas.width !== wide || canvas.height !== high) Object.assign(canvas, { width: wide, height: high });
   canvas.style.height = `${height}px`;
@@ -211,16 +229,30 @@ export function drawLanes() {
   const to = { pen, colour, width };
   drawAxis(to);
   /** @type {{ [lane: string]: (place: Place) => void }} */
-  const drawings = { claims: drawClaims, keys: drawKeys, mouse: drawMouse, serial: drawSerial, screen: drawScreen, marks: drawMarks, film: drawFilm };
-  for (const lane of LANES) drawings[lane]({ ...to, ...placeOf(lane) });
+  const drawings = { checkpoints: drawClaims, keys: drawKeys, mouse: drawMouse, serial: drawSerial, screen: drawScreen, hits: drawMarks, keyframes: drawFilm };
+  for (const lane of lanes.rows) drawings[lane]({ ...to, ...placeOf(lane) });
   drawNow(to, height);
+}
+
+/** Finds the lanes that have something. One that had something stays. */
+function findRows() {
+  const { found, cells, rows } = lanes, { keys, mouse, serial } = found;
+  /** @type {{ [lane: string]: boolean }} */
+  const has = {
+    checkpoints: claimMarks().length > 0, keys: keys.length > 0, mouse: mouse.some(Boolean), serial: serial.some(Boolean) || cells.some(({ sent }) => sent),
+    screen: cells.some(({ lines }) => lines), hits: hitMarks().length > 0,
+  };
+  const now = LANES.filter((lane) => has[lane] || rows.includes(lane));
+  if (now.length === rows.length && el("names").childElementCount > now.length) return;
+  lanes = { ...lanes, rows: now };
+  el("names").replaceChildren(...["", ...now].map((name) => made("span", name)));
 }
 
 /** Returns where a lane is. Merged, the checkpoints and hits are above all others.
  * @param {string} lane */
 function placeOf(lane) {
-  if (!isNarrow()) return { y: AXIS + ROW * LANES.indexOf(lane), high: ROW };
-  return ["claims", "marks"].includes(lane) ? { y: AXIS, high: MERGED / 2 } : { y: AXIS + MERGED / 2, high: MERGED / 2 };
+  if (!isNarrow()) return { y: AXIS + ROW * lanes.rows.indexOf(lane), high: ROW };
+  return ["checkpoints", "hits"].includes(lane) ? { y: AXIS, high: MERGED / 2 } : { y: AXIS + MERGED / 2, high: MERGED / 2 };
 }
 
 /** @param {Omit<Place, "y" | "high">} place */
@@ -303,23 +335,40 @@ function drawSerial({ pen, colour, y, high }) {
   pen.fillStyle = colour("ink");
   lanes.found.serial.forEach((level, column) => level && pen.fillRect(column, y + 2, 2, high / 2 - 3));
   pen.fillStyle = colour("odd-ink");
-  for (const [count] of inSpan(lanes.sent)) pen.fillRect(columnOf(count), y + high / 2 + 1, 2, high / 2 - 3);
+  for (const [from, width] of cellColumns(({ sent }) => sent)) pen.fillRect(from, y + high / 2 + 1, width, high / 2 - 3);
+  drawUnknown({ pen, colour, y: y + high / 2, high: high / 2 });
+}
+
+/** Returns the columns of the cells in which something is not 0: the first one, how many, and how much that is.
+ * @param {(cell: Cell) => number} of
+ * @returns {[number, number, number][]} */
+function cellColumns(of) {
+  return lanes.cells.filter(of).map((cell) => [columnOf(cell.from), Math.max(1, columnOf(cell.end) - columnOf(cell.from) - 1), of(cell)]);
+}
+
+/** Draws slanted lines where it is not known yet what changed.
+ * @param {Omit<Place, "width">} place */
+function drawUnknown({ pen, colour, y, high }) {
+  pen.strokeStyle = colour("soft");
+  pen.globalAlpha = 0.5;
+  pen.beginPath();
+  for (const [from, end] of unknownParts()) {
+    const right = Math.min(columns(), columnOf(end));
+    for (let x = Math.max(0, columnOf(from)); x < right; x += HATCH) pen.moveTo(x, y + high - 2), pen.lineTo(Math.min(right, x + HATCH / 2), y + 2);
+  }
+  pen.stroke();
+  pen.globalAlpha = 1;
 }
 
 /** @param {Place} place */
 function drawScreen({ pen, colour, y, high }) {
-  const most = new Map();
-  for (const [count, lines] of inSpan(lanes.painted)) {
-    const column = Math.floor(columnOf(count));
-    most.set(column, Math.max(most.get(column) ?? 0, lines));
-  }
   pen.fillStyle = colour("ink");
-  for (const [column, lines] of most) {
+  for (const [from, width, lines] of cellColumns(({ lines }) => lines)) {
     const share = Math.sqrt(lines / LINES);
     pen.globalAlpha = 0.4 + 0.6 * share;
-    pen.fillRect(column, y + high - 5 - share * (high - 8), 1, share * (high - 8) + 4);
+    pen.fillRect(from, y + high - 5 - share * (high - 8), width, share * (high - 8) + 4);
   }
-  pen.globalAlpha = 1;
+  drawUnknown({ pen, colour, y, high });
 }
 
 /** @param {Place} place */
@@ -330,7 +379,7 @@ function drawMarks({ pen, colour, y, high }) {
   pen.textAlign = "start";
 }
 
-/** The film: a line as far as the machine has run, with a tick at each keyframe, and a dashed line for what is still to come.
+/** The keyframes: a line as far as the machine has run, with a tick at each keyframe, and a dashed line for what is still to come.
  * @param {Place} place */
 function drawFilm({ pen, colour, y, high }) {
   const middle = Math.round(y + high / 2), [begin, now, end] = [0, nowCount(), lanes.end].map(columnOf);
@@ -377,7 +426,7 @@ export function showCursor(isSettled) {
   if (!app.latest) return;
   write("count", `${grouped(at)} · ${secondsOf(at)}`);
   for (const name of ["begin-at", "back-run", "back"]) set(name, { disabled: at === 0 });
-  set("now", { disabled: !isPast() && !app.latest.isReplay });
+  for (const name of ["now", "next-run"]) set(name, { disabled: !isPast() && !app.latest.isReplay });
   if (!isSettled) return;
   cursor.setAttribute("aria-valuemax", `${lanes.end}`);
   cursor.setAttribute("aria-valuenow", `${at}`);
@@ -403,15 +452,21 @@ function listLanes() {
   const latest = (list) => inSpan(list).slice(-LISTED);
   /** @param {string} lane */
   const inputs = (lane) => listed[lane].map(([count, kind, value]) => `${kind} ${hex(value, 2)} at ${grouped(count)}`);
+  const unknown = unknownParts().map(([from, end]) => `not known yet from ${grouped(from)} to ${grouped(end)}`);
+  /**
+   * @param {"lines" | "sent"} name
+   * @param {(number: number) => string} text
+   */
+  const ofCells = (name, text) => lanes.cells.filter((cell) => cell[name]).slice(-LISTED).map((cell) => `${text(cell[name])} from ${grouped(cell.from)} to ${grouped(cell.end)}`);
   /** @type {{ [lane: string]: string[] }} */
   const lists = {
-    claims: latest(claimMarks()).map(([count, state]) => `${state} at ${grouped(count)}`),
+    checkpoints: latest(claimMarks()).map(([count, state]) => `${state} at ${grouped(count)}`),
     keys: inputs("keys"),
     mouse: inputs("mouse"),
-    serial: [...inputs("serial"), ...latest(lanes.sent).map(([count, text]) => `sent ${text} by ${grouped(count)}`)],
-    screen: latest(lanes.painted).map(([count, lines]) => `${lines} lines changed by ${grouped(count)}`),
-    marks: latest(hitMarks()).map(([count, , what]) => `${what} at ${grouped(count)}`),
-    film: [`kept up to ${grouped(nowCount())}`],
+    serial: [...inputs("serial"), ...ofCells("sent", (bytes) => `${many(bytes, "byte")} sent`), ...unknown],
+    screen: [...ofCells("lines", (lines) => `${many(lines, "line")} changed`), ...unknown],
+    hits: latest(hitMarks()).map(([count, , what]) => `${what} at ${grouped(count)}`),
+    keyframes: [`kept up to ${grouped(nowCount())}`],
   };
   el("lists").replaceChildren(...LANES.map((lane) => laneList(lane, lists[lane])));
 }
@@ -446,8 +501,8 @@ export function trackPressed(event) {
 /** Returns the count of the checkpoint or the hit whose glyph is under the pointer, if there is one.
  * @param {PointerEvent} event */
 function glyphNear(event) {
-  const lane = Math.floor((event.clientY - el("track").getBoundingClientRect().top - AXIS) / ROW), x = xOf(event);
-  const marks = isNarrow() || lane === 0 ? claimMarks() : lane === 5 ? hitMarks() : [];
+  const lane = lanes.rows[Math.floor((event.clientY - el("track").getBoundingClientRect().top - AXIS) / ROW)], x = xOf(event);
+  const marks = isNarrow() || lane === "checkpoints" ? claimMarks() : lane === "hits" ? hitMarks() : [];
   return marks.map(([count]) => count).find((count) => Math.abs(columnOf(count) - x) < GLYPH_WIDTH);
 }
 
@@ -479,10 +534,10 @@ export function trackReleased(event) {
   return lookAt(at);
 }
 
-/** The wheel zooms around the pointer, and with Shift, or sideways, it moves along.
+/** The wheel zooms around the pointer with Ctrl, and moves along with Shift, or sideways; else it scrolls the page.
  * @param {WheelEvent} event */
 export function wheeled(event) {
-  if (!app.latest) return;
+  if (!app.latest || !(event.ctrlKey || event.shiftKey || event.deltaX)) return;
   event.preventDefault();
   const across = event.shiftKey ? event.deltaY : event.deltaX, { from, to } = timeline;
   if (Math.abs(across) > Math.abs(event.shiftKey ? 0 : event.deltaY)) {
@@ -500,6 +555,5 @@ export function makeTimeline() {
   measureTrack();
   new ResizeObserver(() => (measureTrack(), drawLanes(), showCursor(false))).observe(el("track"));
   matchMedia("(prefers-color-scheme: dark)").addEventListener("change", drawLanes);
-  el("names").replaceChildren(...["", ...LANES].map((name) => made("span", name)));
   drawLanes();
 }

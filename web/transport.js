@@ -3,11 +3,12 @@
  * has the focus, its keys go to the machine. */
 import { app } from "./app.js";
 import { conditionsOfBreaks, toggleBreak } from "./code.js";
-import { attempt, el, notice, on } from "./elements.js";
+import { attempt, closeMenus, el, notice, on } from "./elements.js";
 import {
   backToNow, isAhead, isPast, lookAt, nowCount, runAgain, runTo, shownCount, shownState, takeOverHere,
 } from "./look.js";
 import { watchSelected } from "./memory.js";
+import { isPlaying, pausePlay, play } from "./play.js";
 import { setRun } from "./running.js";
 import { finding, search, searchAgain, stopSearch } from "./search.js";
 import { AT, field, PER_SECOND } from "./states.js";
@@ -16,10 +17,10 @@ import {
 } from "./timeline.js";
 import { asking } from "./who.js";
 
-/** Runs and pauses the machine; in the past, goes on to the next breakpoint or watch, or without any to the next input. */
+/** Runs and pauses the machine; in the past, plays from the cursor up to now, and the machine stays where it is. */
 async function runOrPause() {
   if (isAhead()) return runTo(shownCount());
-  if (isPast()) return runInPast(false);
+  if (isPast()) return isPlaying() ? pausePlay() : play();
   await setRun(!app.latest?.on);
 }
 
@@ -33,15 +34,10 @@ function stepBack() {
   return lookAt(shownCount() - 1);
 }
 
-/** Goes to the last hit of the breakpoints and watches before the cursor, or to the first one after it, for which the machine runs on from
- * now if there is none before; without any to an input.
+/** Goes to the last hit of the breakpoints and watches before the cursor, or to the first one after it; without any to an input.
  * @param {boolean} isBack */
-async function runInPast(isBack) {
-  if (!conditionsOfBreaks().length) return toInput(isBack);
-  const found = await search(conditionsOfBreaks(), isBack, true);
-  if (found !== null || isBack) return;
-  await backToNow();
-  await setRun(true);
+function toHit(isBack) {
+  return conditionsOfBreaks().length ? search(conditionsOfBreaks(), isBack, true) : toInput(isBack);
 }
 
 /** Goes to the input before the cursor, or to the next one; to the beginning, or to now, if there is none.
@@ -69,18 +65,21 @@ async function toNow() {
 /** Goes to the count that was written: a number, or seconds as in 1.5 s. */
 async function toWritten() {
   const text = el("goto").value.replaceAll(/[, ]/g, ""), seconds = /^(\d+(?:\.\d*)?)s$/.exec(text);
-  if (!seconds && !/^\d+$/.test(text)) return notice(`${el("goto").value}: a count is a whole number, or seconds as in 1.5 s.`);
+  if (!seconds && !/^(?:\d+|0x[0-9a-f]+)$/i.test(text))
+    return notice(`${el("goto").value}: a count is a whole number, hexadecimal after 0x, or seconds as in 1.5 s.`);
   notice();
+  if (document.activeElement === el("goto")) el("cursor").focus({ preventScroll: true });
+  closeMenus();
   await lookAt(seconds ? Number(seconds[1]) * PER_SECOND : Number(text));
 }
 
 // What each key does. A capital is with Shift.
 /** @type {{ [key: string]: () => unknown }} */
 const KEYS = {
-  ArrowLeft: stepBack, ArrowRight: stepOn, "Shift+ArrowLeft": () => runInPast(true), "Shift+ArrowRight": runOrPause,
+  ArrowLeft: stepBack, ArrowRight: stepOn, "Shift+ArrowLeft": () => toHit(true), "Shift+ArrowRight": () => toHit(false),
   ",": () => toInput(true), ".": () => toInput(false), "[": () => toClaim(true), "]": () => toClaim(false),
   Home: () => lookAt(0), End: toNow, PageUp: () => zoom(ZOOM), PageDown: () => zoom(1 / ZOOM), "+": () => zoom(ZOOM), "-": () => zoom(1 / ZOOM),
-  "−": () => zoom(1 / ZOOM), "=": () => zoom(ZOOM), g: () => el("goto").focus(), "/": () => el("search-kind").focus(),
+  "−": () => zoom(1 / ZOOM), "=": () => zoom(ZOOM), g: () => openMore("goto"), "/": () => openMore("search-kind"),
   n: () => searchAgain(false), N: () => searchAgain(true), b: () => toggleBreak(field(shownState(), AT.PC)), w: watchSelected, Escape: endOrNow,
 };
 
@@ -93,6 +92,13 @@ function timeKey(event) {
   if (!task) return;
   event.preventDefault();
   return task();
+}
+
+/** Opens what one searches with, and goes to a field of it.
+ * @param {"goto" | "search-kind"} field */
+function openMore(field) {
+  el("more").setAttribute("open", "");
+  el(field).focus();
 }
 
 /** Ends the search that is under way, or else goes to now. */
@@ -112,7 +118,8 @@ export function listenToTime() {
   on("run", "click", runOrPause);
   on("step", "click", stepOn);
   on("back", "click", stepBack);
-  on("back-run", "click", () => runInPast(true));
+  on("back-run", "click", () => toHit(true));
+  on("next-run", "click", () => toHit(false));
   on("begin-at", "click", () => lookAt(0));
   on("now", "click", toNow);
   on("back-now", "click", () => backToNow());

@@ -126,8 +126,9 @@ interface KeptSince extends Since {
 interface Summary {
   id: any;
   isReadable: boolean;
+  name: string;
   text: string;
-  name?: string;
+  dots?: Bytes;
   family?: number;
   number?: number;
   parent?: number;
@@ -162,6 +163,7 @@ interface Frame {
   marks: number;
   planned: number;
   typed: number;
+  serial: number;
   hasOwn: boolean;
   inputRefusal: string | null;
   isReplay: boolean;
@@ -184,13 +186,14 @@ interface Failure {
 }
 
 interface LiveNews extends Partial<Frame>, Failure {
-  passed?: Passed;
+  passed?: Passed[];
   met?: { generation: number; at: number; condition: Condition };
 }
 
 /** A machine that was opened, with what the browser is to keep of the one before. */
 interface Opened {
   kind: string;
+  program: number;
   claims: number[] | null;
   version?: number;
   inputs: number;
@@ -343,6 +346,20 @@ interface Extent {
   generation: number;
 }
 
+/** A part of the timeline: how many lines of the screen changed in it, and how many bytes were sent. */
+interface Cell {
+  from: number;
+  end: number;
+  lines: number;
+  sent: number;
+}
+
+/** The cells that are known, and whether all of them are. */
+interface Changes {
+  cells: Cell[];
+  isDone: boolean;
+}
+
 interface PastNews extends Failure {
   peeked?: Moment & { generation: number };
   searched?: { generation: number; request: number; done: number; of: number };
@@ -374,12 +391,15 @@ interface Requests {
   takeOver: [Start | {}, { left: Whole | null; fork: number }];
   setBreaks: [{ conditions: Condition[] }, void];
   change: [{ kind: number; changes: Change[] }, string | null];
-  type: [{ keys?: number[]; serial?: number[] }, string | null];
+  type: [{ keys?: ArrayLike<number>; serial?: ArrayLike<number> }, string | null];
+  cancelSerial: [{}, void];
   mark: [{}, string | null];
   claimed: [{ number: number; of: number }, Claimed | null];
   claimedPage: [{ number: number; page: number; of: number }, Bytes | null];
+  claimedOutput: [{ number: number; of: number }, Bytes | null];
   session: [{}, Made];
   recording: [{}, Made];
+  recordingTo: [Start, Made];
   kept: [{}, (Whole & { fork: number }) | null];
   begun: [{}, Begun & { fork: number }];
   lanes: [{ from: number; to: number; columns: number; of: number }, Lanes | null];
@@ -387,6 +407,7 @@ interface Requests {
   check: [{ bytes: Bytes; whole?: number; size?: number }, Verdicted];
   peek: [{ generation?: number; at: number; quick?: boolean }, Moment | null];
   memory: [{ generation?: number; at: number; from: number; length: number }, { at: number; bytes: Bytes } | null];
+  output: [{ generation?: number; at: number; from: number }, { bytes: Bytes } | null];
   moment: [{ generation?: number; at: number }, Start | null];
   around: [{ generation?: number; at: number; before: number; after: number }, Done[] | null];
   find: [{ generation?: number; request?: number; from?: number; to: number; last?: boolean; conditions: Condition[] }, Found];
@@ -394,6 +415,7 @@ interface Requests {
   recheck: [{ generation?: number; at: number }, { at?: number; part?: string | null; stopped?: boolean }];
   stopSearch: [{}, boolean];
   keyframes: [{}, Extent];
+  changes: [{ generation?: number; from: number; to: number; size: number; now: number; isOn: boolean }, Changes | null];
 }
 
 type RequestName = keyof Requests;
@@ -428,6 +450,7 @@ interface Elements {
   serial: HTMLTextAreaElement;
   "serial-form": HTMLFormElement;
   "serial-return": HTMLInputElement;
+  "serial-file": HTMLInputElement;
   "claim-number": HTMLInputElement;
   "memory-at": HTMLInputElement;
   search: HTMLFormElement;

@@ -2,10 +2,10 @@
 /* The verdict lines that the page shows, each in a place of its own: that of the file that is open, and that of the recording that
  * was saved. Each check has a worker of its own, the clerk. */
 import { app } from "./app.js";
-import { el, grouped, many, notice } from "./elements.js";
+import { el, grouped, many, named, notice } from "./elements.js";
 import { readLine } from "./lines.js";
-import { secondsOf } from "./look.js";
 import { Helper } from "./requests.js";
+import { PER_SECOND } from "./states.js";
 
 export const STATUSES = ["accepted", "false", "refused"];
 const OF_ONE_CALL = "This line is that of one call of the proved check, over the whole recording.";
@@ -47,8 +47,10 @@ class Verdict {
   show(line, status = null, how = "") {
     Object.assign(this, { line, status, read: readLine(line ?? "") });
     this.part("line").textContent = line ?? "";
-    this.part("line").className = `line ${status === null ? "note" : STATUSES[status]}`;
-    this.part("headline").textContent = headlineOf(this.read);
+    const isEmpty = this.read.accepted?.checkpoints === 0;
+    this.part("line").className = `line ${status === null || isEmpty ? "note" : STATUSES[status]}`;
+    this.part("headline").textContent = headlineOf(this.read) || line;
+    this.part("headline").className = this.part("line").className;
     this.part("how").textContent = how;
   }
 
@@ -66,7 +68,7 @@ class Verdict {
    * @param {Bytes} bytes */
   async check(name, bytes) {
     this.clear();
-    this.part("judged").textContent = `${this.what} ${name}`;
+    this.part("judged").replaceChildren(`${this.what} `, named(name));
     const work = { begun: performance.now(), done: 0 };
     const clerk = (this.clerk = new Helper(app.module, (news) => this.heard(work, news)));
     this.timer = setInterval(() => this.progress(work, performance.now() - work.begun), 100);
@@ -114,6 +116,7 @@ class Verdict {
     const left = share ? `, about ${Math.max(1, Math.ceil((ms / share - ms) / 1000))} s left` : "";
     const what = stretches ? `now the whole in one call, ${grouped(steps ?? 0)} steps` : steps ? `${grouped(done)} of ${grouped(steps)} steps` : "";
     this.part("left").textContent = what + left;
+    if (!this.line) this.part("headline").textContent = `checking${share ? `, ${Math.floor(100 * share)} %` : " .."}`;
   }
 
   /** Ends the check, if there is one. */
@@ -138,8 +141,9 @@ class Verdict {
 export function headlineOf({ accepted, wrong }) {
   if (wrong) return `False at checkpoint ${grouped(wrong.number)}: ${wrong.part}`;
   if (!accepted) return "";
-  const { checkpoints, steps } = accepted;
-  return `Accepted: ${many(checkpoints, "checkpoint")} in ${secondsOf(steps)} ${checkpoints === 1 ? "is" : "are"} true`;
+  const { checkpoints, steps } = accepted, seconds = Number((steps / PER_SECOND).toFixed(3));
+  if (!checkpoints) return "Valid, claims nothing";
+  return `${many(checkpoints, "checkpoint")}, ${seconds} s of machine time: ${checkpoints === 1 ? "" : "all "}true`;
 }
 
 /** Says what a check has found that was stopped before it had a line.

@@ -73,6 +73,7 @@ function partsOfAnswer(answer, { about, title, isOn }) {
   if (at === undefined) return [where, again, ...searching];
   const buttons = [button("Jump", () => lookAt(at)), button("Earlier", () => askWho(about, title, at))];
   if (!state) return [where, ...buttons, again, ...searching];
+  if (answer.word === undefined) return [where, paragraph("PC is outside memory.", "instruction"), ...buttons, ...searching];
   return [where, instructionLine(answer), ...buttons, again, ...searching, made("code", registersText(state))];
 }
 

@@ -23,11 +23,13 @@ const PAST = {
   },
   peek: (/** @type {Requests["peek"][0]} */ given) => history.peek(given),
   memory: (/** @type {Requests["memory"][0]} */ given) => history.memory(given),
+  output: (/** @type {Requests["output"][0]} */ given) => history.output(given),
   moment: (/** @type {Requests["moment"][0]} */ given) => history.moment(given),
   around: (/** @type {Requests["around"][0]} */ given) => history.around(given),
   find: (/** @type {Requests["find"][0]} */ given) => history.searches.find(given),
   who: (/** @type {Requests["who"][0]} */ given) => history.searches.who(given),
   recheck: (/** @type {Requests["recheck"][0]} */ given) => history.searches.recheck(given),
+  changes: (/** @type {Requests["changes"][0]} */ given) => history.cells.changes(given),
   stopSearch: () => history.searches.stop(),
   /** Takes one more worker for searches, by its port.
    * @param {{ port: MessagePort }} given */

@@ -16,6 +16,8 @@ export class Journal {
   marks = [];
   /** @type {Partial<Waiting>[]} */
   typed = [];
+  // How many of the inputs that came are keys, and serial bytes.
+  took = { keys: 0, serial: 0 };
   count = 0;
 
   /** Begins with what the live machine answered, which has all that was asked before the journal was made.
@@ -30,30 +32,32 @@ export class Journal {
   hear({ inputs, marks }, count) {
     if (!this.base) return;
     if (inputs.length) this.inputs.push(inputs);
+    for (let at = INPUT.kind; at < inputs.length; at += INPUT_BYTES) {
+      if (inputs[at] === KEY) this.took.keys++;
+      if (inputs[at] === SERIAL) this.took.serial++;
+    }
     this.marks.push(...marks);
     this.count = count;
   }
 
   /** Returns what was typed and sent, and was not taken by the machine yet. */
   get waiting() {
-    const { base, typed } = this;
-    /**
-     * @param {"keys" | "serial"} name
-     * @param {number} kind
-     */
-    const notTaken = (name, kind) => {
+    const { base, typed, took } = this;
+    /** @param {"keys" | "serial"} name */
+    const notTaken = (name) => {
       const all = joined([Uint8Array.from(base?.waiting?.[name] ?? []), ...typed.map((codes) => Uint8Array.from(codes[name] ?? []))]);
-      return all.slice(this.taken(kind));
+      return all.slice(took[name]);
     };
-    return { keys: notTaken("keys", KEY), serial: notTaken("serial", SERIAL) };
+    return { keys: notTaken("keys"), serial: notTaken("serial") };
   }
 
-  /** Returns how many inputs of a kind came.
-   * @param {number} kind */
-  taken(kind) {
-    let number = 0;
-    for (const inputs of this.inputs) for (let at = INPUT.kind; at < inputs.length; at += INPUT_BYTES) number += inputs[at] === kind ? 1 : 0;
-    return number;
+  /** Forgets serial bytes that the machine will not take any more: those that waited at first, and those that were sent. What was taken of
+   * them is known.
+   * @param {Partial<Waiting>[]} sent */
+  forgetSerial(sent) {
+    for (const codes of sent) codes.serial = [];
+    if (this.base) this.base.waiting = { ...this.base.waiting, serial: [] };
+    this.took.serial = 0;
   }
 
   /** Returns what the browser keeps of it. */
@@ -100,13 +104,15 @@ export class Work {
 
   /**
    * @param {string} name
-   * @param {{ generation?: number, fork?: number, sent?: string }} of
+   * @param {{ generation?: number, fork?: number, sent?: string, program?: number }} of
    */
-  constructor(name, { generation = 0, fork = 0, sent = "" } = {}) {
+  constructor(name, { generation = 0, fork = 0, sent = "", program = 0 } = {}) {
     this.name = name;
     this.generation = generation;
     this.fork = fork;
     this.sent = sent;
+    // What the memory was at first, as a number.
+    this.program = program;
   }
 
   /** Whether something came that is not kept. */

@@ -13,7 +13,7 @@ from of_tools import browser
 
 KEY = 4
 KEPT = "[...document.querySelectorAll('#g-kept-list p')].map((it) => it.textContent)"
-ITEM = re.compile(r"(\w+)(?:, branch (\d))?, of .*: ([\d,]+) instructions?, (\d+) inputs?")
+ITEM = re.compile(r"(\w+)(?:, branch (\d))?, of .*: ([\d,]+) instructions?, (\d+) inputs?, [\d.]+ MB")
 COUNT = "Number(document.getElementById('g-count').textContent.split(' ')[0].replaceAll(',', ''))"
 WORD = "document.getElementById('g-state-word').textContent"
 
@@ -27,7 +27,12 @@ class Person(Desk):
     def press_button(self, selector: str) -> None:
         """Clicks on the middle of an element with the mouse."""
         found = f"document.querySelector('{selector}')"
+        menu = "#g-kept" if selector.startswith("#g-kept-list") else "#g-examples" if selector == "#g-draw" else ""
+        if menu and not self.page.answer(f"document.querySelector('{menu}').open"):
+            self.press_button(f"{menu} summary")
         self.page.wait(f"{found} && !{found}.disabled && {found}.checkVisibility()")
+        # What is above it may have grown in the frame before.
+        self.page.answer("new Promise((done) => requestAnimationFrame(() => requestAnimationFrame(() => done())))")
         self.page.answer(f"{found}.scrollIntoView({{ block: 'nearest' }})")
         x, y = self.page.answer(f"(({{ left, top, width, height }}) => [left + width / 2, top + height / 2])({found}.getBoundingClientRect())")
         for kind in ("mouseMoved", "mousePressed", "mouseReleased"):
@@ -71,7 +76,7 @@ class Person(Desk):
         """Continues what was kept last, and waits until it is where it was."""
         self.page.wait("!document.getElementById('g-continue').disabled")
         self.press_button("#g-continue")
-        self.page.wait(f"{WORD} === 'LIVE' && document.getElementById('g-run').textContent === 'Run'")
+        self.page.wait(f"{WORD} === 'PAUSED' && document.getElementById('g-run').textContent === 'Run'")
 
     def keys(self) -> str:
         """The keys of the recording of what is open, which the program accepts."""
@@ -126,7 +131,7 @@ def take_over(who: Person) -> tuple[int, int]:
     old = who.count()
     who.press_button("#g-begin-at")
     who.press_button("#g-take-here")
-    who.page.wait(f"{WORD} === 'LIVE' && {COUNT} === 0")
+    who.page.wait(f"{WORD} === 'PAUSED' && {COUNT} === 0")
     who.run_or_pause()
     who.type("n")
     who.run_or_pause()
@@ -165,7 +170,7 @@ def resume_branch(who: Person, number: int) -> None:
     at = next(at for at, text in enumerate(texts) if f", branch {number}, " in text)
     who.press_button("#g-kept summary")
     who.press_button(f"#g-kept-list p:nth-of-type({at + 1}) + button")
-    who.page.wait(f"{WORD} === 'LIVE' && document.getElementById('g-run').textContent === 'Run' && {SENT}")
+    who.page.wait(f"{WORD} === 'PAUSED' && document.getElementById('g-run').textContent === 'Run' && {SENT}")
 
 
 def forget_all(who: Person) -> None:

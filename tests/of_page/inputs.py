@@ -151,7 +151,7 @@ def go_to_checkpoints(desk: Desk) -> None:
     page.wait("app.latest.on")
     page.answer("el('speed').focus()")
     page.press("ArrowDown")
-    page.answer("el('each').focus()")
+    page.answer("el('more').open = true; el('each').focus()")
     page.press("ArrowUp")
     page.wait("!app.latest.on")
     expect("the goal after a change of the speed", page.answer("[countOf(app.latest.state), el('speed').value, el('each').value]"), [25000000, "fast", "2"])

@@ -10,7 +10,7 @@ from of_tools.samples import EXAMPLES, rejoining
 DRAW = (EXAMPLES / "draw.json").read_bytes()
 ITEMS = "withKept('readonly', (store) => store.getAll()).then((all) => all.filter(isItem).map(({ name, count, sent }) => [name, count, sent]))"
 IS_KEPT = "app.work.kept.startsWith(`${countOf(app.latest.state)} ${app.latest.inputs} `)"
-BUTTONS = "[...document.querySelectorAll('#g-kept button')]"
+BUTTONS = "[...document.querySelectorAll('#g-kept-list button')]"
 
 
 def items(page: browser.Page) -> list[list]:

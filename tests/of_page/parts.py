@@ -5,7 +5,7 @@ A task is a test. It begins with what it opens itself, since it is also run alon
 
 from collections.abc import Callable, Mapping, Sequence
 
-from of_page import game, inputs, kept, said, timeline, touch, use
+from of_page import game, inputs, kept, layout, names, offers, playing, replays, said, sending, stops, timeline, touch, use
 from of_page.desk import Desk
 
 Task = Callable[[Desk], None]
@@ -19,6 +19,13 @@ PARTS: Mapping[str, Sequence[Task]] = {
     "inputs": inputs.TASKS,
     "game": game.TASKS,
     "touch": touch.TASKS,
+    "stops": stops.TASKS,
+    "offers": offers.TASKS,
+    "layout": layout.TASKS,
+    "replays": replays.TASKS,
+    "playing": playing.TASKS,
+    "names": names.TASKS,
+    "sending": sending.TASKS,
     "desk": use.TASKS,
 }
 

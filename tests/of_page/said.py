@@ -138,10 +138,13 @@ def end_at_last_count(desk: Desk) -> None:
     page.answer("el('speed').value = 'fast'; el('each').value = 3600")
     never = "1 input of the file at this count will never come."
     for word, told in ((JUMP, f"last FULL at {last:,}: no count comes after this one, so the machine does nothing more. {never}"),
-                       (STOP, f"last STOPPED float: the machine does nothing more. {never}")):
+                       (STOP, f"last STOPPED at 0: a floating-point instruction. The machine does nothing more. {never}")):
         desk.start("last.orsr", encoded(2, [page_of(word)], [claim(0)], [Event(last, 4, 65)]))
         desk.click("run")
         page.wait(f"nowCount() === {last} && !app.latest.on", moving="nowCount()")
+        if word == STOP:
+            page.wait("shownCount() === 0")
+            desk.click("back-now")
         expect("what is said of the last count", page.answer(MODE), told)
     page.answer("el('each').value = 5")
     print("full: an input at 2^40 ends a replay there, with a word")

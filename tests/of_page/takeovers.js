@@ -41,7 +41,7 @@ async function takeOverAgain(desk) {
   await desk.run(9000000);
   await desk.live.ask("takeOver", await desk.past.moment(6000000));
   await desk.run(13000000);
-  expect("that what the file claims later is not judged", desk.frames.flatMap((news) => news.passed?.count ?? []), [4000000, 8000000]);
+  expect("that what the file claims later is not judged", desk.frames.flatMap((news) => (news.passed ?? []).map(({ count }) => count)), [4000000, 8000000]);
   console.log(`recording of-a-replay ${Buffer.from((await desk.live.ask("recording")).bytes).toString("base64")}`);
   await desk.open("openRecording", { bytes: new Uint8Array(readFileSync(join(FOLDER, "false.orsr"))), checkpoint: 0 });
   await desk.run(4);

@@ -206,6 +206,10 @@ class Page:
         button: dict[str, object] = {"button": "none"} if kind == "mouseMoved" else {"button": "left", "clickCount": 1}
         self._ask("Input.dispatchMouseEvent", type=kind, x=x, y=y, buttons=buttons, **button)
 
+    def turn_wheel(self, x: float, y: float, down: float, ctrl: bool = False) -> None:
+        """Turns the wheel of the mouse over a place, with Ctrl held down or not."""
+        self._ask("Input.dispatchMouseEvent", type="mouseWheel", x=x, y=y, deltaX=0, deltaY=down, modifiers=2 if ctrl else 0)
+
     def send_mouse(self, kind: str, x: float, y: float, at: float, buttons: int = 0) -> None:
         """Does as `point` does, at a time in seconds since 1970, and does not wait until the page has seen it."""
         button = {"button": "none"} if kind == "mouseMoved" and not buttons else {"button": "left"}

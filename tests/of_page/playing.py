@@ -1,0 +1,97 @@
+"""What goes on and what stays: the past is played up to now while the machine stays where it is, hits have buttons of their own, and a machine that is
+taken over goes on at the first key."""
+
+from of_page.desk import MODE, SENT, Desk, expect, fail, shown
+from of_page.stops import press_button
+from of_page.timeline import EXACT, FACE, WORD, look_at, run_to_end
+
+END, NEVER = 20000000, 77777
+
+
+def play(desk: Desk) -> None:
+    """The past is played from the cursor, paused, and played on up to now, at both speeds; the machine stays where it is."""
+    page = desk.page
+    run_to_end(desk, "face.orsr", FACE)
+    expect("what a machine that is paused is", page.answer(WORD), "PAUSED")
+    for speed in ("clock", "fast"):
+        page.answer(f"el('speed').value = '{speed}'")
+        look_at(desk, 8000000)
+        expect("what the button does", page.answer(shown("run")), "Play")
+        press_button(desk, "run")
+        page.wait(f"look.at > 8500000 && {shown('run')} === 'Pause'")
+        press_button(desk, "run")
+        page.wait(f"{EXACT} && {shown('run')} === 'Play'")
+        before = page.answer("new Promise((done) => { const { at } = look; setTimeout(() => done(at - look.at), 300); })")
+        expect("how far it goes once it is paused", before, 0)
+        press_button(desk, "run")
+        page.wait("!isPast()")
+        expect("the machine", page.answer(f"[nowCount(), app.latest.on, {shown('run')}]"), [END, False, "Run"])
+    look_at(desk, 8000000)
+    press_button(desk, "run")
+    page.wait("look.at > 8000000")
+    page.answer("el('cursor').focus()")
+    page.press("[")
+    page.wait(f"look.at <= 8000000 && {EXACT}")
+    print("play: from the cursor up to now at both speeds, paused, and ended by a look")
+
+
+def go_to_hits(desk: Desk) -> None:
+    """The buttons of hits go to breakpoints and to inputs; where there is none after the cursor, the machine does not go on."""
+    page = desk.page
+    run_to_end(desk, "face.orsr", FACE)
+    look_at(desk, 8000000)
+    page.answer(f"toggleBreak({NEVER})")
+    for does in ("Shift", "button"):
+        press_button(desk, "next-run") if does == "button" else page.press("ArrowRight", modifiers=8)
+        page.wait(f"{shown('found')} === 'There is none after it, up to now.'")
+        expect("where the machine and the cursor are", page.answer("[nowCount(), app.latest.on, look.at]"), [END, False, 8000000])
+        page.answer("notice(''); el('found').textContent = ''; el('cursor').focus()")
+    page.answer(f"toggleBreak({NEVER}); toggleBreak(field(look.moment.state, AT.PC))")
+    press_button(desk, "next-run")
+    page.wait(f"look.at > 8000000 && {EXACT}")
+    press_button(desk, "back-run")
+    page.wait(f"look.at === 8000000 && {EXACT}")
+    page.answer("for (const pc of breaks) toggleBreak(pc)")
+    print("hits: the buttons go to the one before and the next one; the machine never goes on")
+
+
+def go_on_at_key(desk: Desk) -> None:
+    """What is taken over goes on at the first key, and the program gets that: the drawing program, and Snake by an arrow."""
+    page = desk.page
+    page.answer("el('speed').value = 'clock'")
+    press_button(desk, "draw")
+    page.wait("app.latest?.on && document.activeElement === el('screen')")
+    for key in "ab":
+        page.press(key)
+        page.wait(f"{SENT}.endsWith({key!r})")
+    press_button(desk, "run")
+    page.wait(f"{WORD} === 'PAUSED'")
+    page.press("Tab")
+    press_button(desk, "begin-at")
+    press_button(desk, "take-here")
+    page.wait(f"{WORD} === 'PAUSED' && nowCount() === 0")
+    expect("what is said of it", page.answer(MODE), "draw PAUSED The machine goes on at the first key.")
+    page.press("z")
+    page.wait(f"{WORD} === 'LIVE' && {SENT} === 'z'")
+    press_button(desk, "run")
+    page.wait("!app.latest.on")
+    page.answer("el('screen').focus()")
+    page.press("y")
+    desk.expect_notice("a key once it is paused again", r"The machine is paused: keys and the mouse go to it while it runs\.")
+    press_button(desk, "snake")
+    page.wait("app.latest?.on && isSnake() && nowCount() > 10000000")
+    press_button(desk, "run")
+    page.wait("!app.latest.on")
+    press_button(desk, "begin-at")
+    press_button(desk, "take-here")
+    page.wait("nowCount() === 0 && !isPast()")
+    page.press("ArrowUp")
+    page.wait("app.latest.on && app.latest.inputs === 1")
+    press_button(desk, "run")
+    page.wait("!app.latest.on")
+    if page.answer(shown("notice")):
+        fail(f"what is said of an arrow: {page.answer(shown('notice'))!r}")
+    print("taken over: the machine goes on at the first key, and gets it")
+
+
+TASKS = (play, go_to_hits, go_on_at_key)

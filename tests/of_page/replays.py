@@ -1,0 +1,96 @@
+"""Replays of recordings with thousands of checkpoints, true and false, and what is said while the browser's storage does not answer."""
+
+import struct
+from functools import cache
+
+import galluspa.recording
+from of_page.desk import OWN_LINE, SENT, Desk, expect, fail, program, shown
+from of_page.stops import press_button
+from of_tools.samples import record, session
+
+# Counts in R0, and sends its lowest byte each time: so no step of it is skipped.
+COUNTING = [0x5100FFC8, 0x40080001, 0xA0100000, 0xE7FFFFFD]
+MANY, APART, FALSE = 4096, 600, 300
+PASSED = "[...document.querySelectorAll('#g-passed li')].map((it) => it.textContent)"
+# A turn of a fast run takes 12 ms. With a checkpoint each, it would be more than four thousand of them.
+MOST_TURNS = 1500
+
+
+@cache
+def many(number: int) -> bytes:
+    """A recording with so many checkpoints."""
+    return record(session(COUNTING, range(APART, APART * number + 1, APART)))
+
+
+def replay_many(desk: Desk) -> None:
+    """Four thousand checkpoints are passed in few turns, each as true; the recording that was made on the way has them all."""
+    page = desk.page
+    page.answer("el('speed').value = 'fast'")
+    desk.start("many.orsr", many(MANY))
+    press_button(desk, "run")
+    page.wait("!app.latest.isReplay && !app.latest.on", moving="nowCount()")
+    if (turns := page.answer("app.latest.frames")) > MOST_TURNS:
+        fail(f"{MANY} checkpoints are passed in {turns} turns")
+    expect("what was passed", page.answer(PASSED), [f"at {APART * number:,}: true" for number in range(1, MANY + 1)])
+    expect("the machine's checkpoints", page.answer("app.latest.marks"), MANY)
+    saved = desk.save("many", "a replay of many checkpoints")
+    own, other = [galluspa.recording.read(text) for text in (saved, many(MANY))]
+    expect("whether the same is claimed", [it.output for it in own.checkpoints] == [it.output for it in other.checkpoints], True)
+    print(f"replay: {MANY} checkpoints in {turns} turns, and recorded again")
+
+
+def take_over_between(desk: Desk) -> None:
+    """One takes over between two of many checkpoints, and makes one by hand before: the recording has those that were passed, and what came then."""
+    page = desk.page
+    desk.start("many.orsr", many(FALSE))
+    page.answer("app.live.ask('setRun', { on: true, fast: true, goal: 30100, seconds: 0 })")
+    page.wait("nowCount() === 30100 && !app.latest.on")
+    press_button(desk, "make-checkpoint")
+    page.answer("app.live.ask('setRun', { on: true, fast: true, goal: 60100, seconds: 0 })")
+    page.wait("nowCount() === 60100 && !app.latest.on")
+    press_button(desk, "take-over")
+    page.wait("!app.latest.isReplay")
+    counts = [it.count for it in galluspa.recording.read(desk.save("many", "what was taken over")).checkpoints]
+    expect("the checkpoints of what was taken over", counts, sorted([*range(0, 60100, APART), 30100, 60100]))
+    print("replay: a checkpoint by hand between two of many, and a take-over")
+
+
+def replay_false(desk: Desk) -> None:
+    """One of many checkpoints is false: those before it are true, it is named with its part, and those after it are judged each."""
+    page = desk.page
+    false, wrong = bytearray(many(FALSE)), galluspa.recording.read(many(FALSE))
+    at = len(false) - sum(len(it.output) for it in wrong.checkpoints)
+    for number in range(FALSE, 200 - 1, -1):
+        changes = next(n for n in range(1025) if struct.unpack_from("<I", false, at - 144 - 8 * n + 140)[0] == n)
+        at -= 144 + 8 * changes
+    struct.pack_into("<I", false, at + 8 + 4 * 3, 7)
+    expect("the program's line", program("check", bytes(false))[0], f"false checkpoint 200 at {200 * APART} part R3")
+    desk.start("false.orsr", bytes(false))
+    press_button(desk, "run")
+    page.wait("!app.latest.isReplay && !app.latest.on", moving="nowCount()")
+    wanted = [f"at {APART * number:,}: {'false, first in R3' if number == 200 else 'true'}" for number in range(1, FALSE + 1)]
+    expect("what was passed", page.answer(PASSED), wanted)
+    desk.save("false", "a replay of a false recording")
+    expect("its line", page.answer(OWN_LINE).split()[:2], ["accepted", f"{FALSE}"])
+    print("replay: of many checkpoints a false one is named, the others are true")
+
+
+def wait_for_storage(desk: Desk) -> None:
+    """While a storage does not answer, the page says at once what it waits for when another machine is opened."""
+    page = desk.page
+    page.answer("IDBFactory.prototype.open = () => ({}); storage.connection?.close(); storage.connection = null")
+    page.answer("el('speed').value = 'clock'")
+    press_button(desk, "draw")
+    page.wait("app.latest?.on && document.activeElement === el('screen')")
+    page.press("a")
+    page.wait(f"{SENT} === 'a'")
+    page.answer("window.confirm = () => true; window.notices = []; "
+                "new MutationObserver(() => notices.push(el('notice').textContent)).observe(el('notice'), { childList: true, characterData: true, subtree: true })")
+    press_button(desk, "face")
+    page.wait("notices.includes('Waiting for the browser to keep the recording of draw ..')")
+    expect("what is open meanwhile", page.answer(shown("name")), "draw")
+    page.wait(f"{shown('name')} === 'face'")
+    print("storage: one that does not answer is said to be waited for")
+
+
+TASKS = (replay_many, take_over_between, replay_false, wait_for_storage)
