@@ -130,6 +130,8 @@ def take_over(who: Person) -> tuple[int, int]:
     who.run_or_pause()
     old = who.count()
     who.press_button("#g-begin-at")
+    # The answer of the look moves the buttons of the past.
+    who.page.wait(f"{WORD} === 'PAST' && {COUNT} === 0")
     who.press_button("#g-take-here")
     who.page.wait(f"{WORD} === 'PAUSED' && {COUNT} === 0")
     who.run_or_pause()
