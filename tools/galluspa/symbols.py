@@ -111,6 +111,11 @@ class Symbols:
     def __len__(self) -> int:
         return len(self._placed) + len(self._constants)
 
+    @property
+    def has_lines(self) -> bool:
+        """Whether there are lines of sources."""
+        return bool(self._lines) or any(row[5] for _, row in self._placed)
+
     @cached_property
     def _groups(self) -> tuple[Sequence[int], Sequence[int]]:
         """The addresses that have names, and where the names of each begin among all."""
@@ -235,15 +240,26 @@ class Symbols:
         group = self._group(address)
         return group >= 0 and KINDS[self._of_group(group)[0][1][2]] == DATA
 
-    def source(self, address: int) -> str:
-        """The line of the source that an instruction is of, which goes on up to the next line or the next name;
-        nothing if it is not known."""
+    def code(self) -> Iterator[range]:
+        """The byte addresses that are shown with a name of code, in ranges, each with the names of one address."""
+        bounds, owners = self._stretches
+        for start, end, owner in zip(bounds, bounds[1:], owners):
+            if owner >= 0 and KINDS[self._of_group(owner)[0][1][2]] == CODE:
+                yield range(start, end)
+
+    def line_of(self, address: int) -> Source | None:
+        """The line of the source that an instruction is of, which goes on up to the next line or the next name; None
+        if it is not known."""
         at = bisect_right(self._line_addresses, address) - 1
         start = self._line_addresses[at] if at >= 0 else -1
         if start == address or start >= 0 and self._group(start) == self._group(address) >= 0:
-            return Source(*self._lines[at]).text
-        defined = (Source(address, it.file, it.line).text for it in self.exactly(address) if it.file)
-        return next(defined, "")
+            return Source(*self._lines[at])
+        return next((Source(address, it.file, it.line) for it in self.exactly(address) if it.file), None)
+
+    def source(self, address: int) -> str:
+        """The text of the line of the source that an instruction is of; nothing if it is not known."""
+        found = self.line_of(address)
+        return found.text if found else ""
 
     def places(self, name: str) -> list[int]:
         """The different addresses of a name, or values of a constant."""
