@@ -12,7 +12,7 @@ from PIL import Image
 from galluspa.commands import commands
 from of_tools.samples import EXAMPLES, PROGRAM, TOP, ToolTest, run
 
-GUIDES = ("recording-your-system", "suites", "debugging", "from-python")
+GUIDES = ("recording-your-system", "suites", "debugging", "from-python", "measuring")
 SHOWING = [*sorted((TOP / "docs/lessons").glob("*.md")), *(TOP / f"docs/{name}.md" for name in GUIDES)]
 # What shows the commands of the program, in its crate's folder, and those of the tools, at the top.
 OVERVIEWS = (TOP / "README.md", TOP / "docs/commands.md")

@@ -8,6 +8,7 @@ import re
 from bisect import bisect_right
 from collections.abc import Iterator, Sequence
 from functools import cached_property
+from itertools import islice
 
 from galluspa.assembler import LINK, U
 from galluspa.instructions import NEVER, address, is_branch, is_store
@@ -142,6 +143,10 @@ class Callers:
         """Where the machine is, who probably called that, who called that one, and so on."""
         at = 4 * state.pc
         return [self.text(it) for it in [at, *self._callers(at, state.registers)][: MOST_CALLERS + 1]]
+
+    def ways_back(self, state: Checkpoint) -> list[int]:
+        """The addresses that probably go on after each call that the machine is in, the last call first."""
+        return list(islice(self._callers(4 * state.pc, state.registers), MOST_CALLERS))
 
     def _callers(self, at: int, registers: Sequence[int]) -> Iterator[int]:
         back, pointer = registers[BACK], registers[STACK_POINTER]

@@ -113,6 +113,11 @@ class Symbols:
     def __len__(self) -> int:
         return len(self._placed) + len(self._constants)
 
+    @property
+    def has_lines(self) -> bool:
+        """Whether there are lines of sources."""
+        return bool(self._lines) or any(row[5] for _, row in self._placed)
+
     @cached_property
     def _groups(self) -> tuple[Sequence[int], Sequence[int]]:
         """The addresses that have names, and where the names of each begin among all."""
@@ -301,6 +306,13 @@ class Symbols:
     def names(self) -> Iterable[str]:
         """All names."""
         return self._by_name.keys()
+
+    def code(self) -> Iterator[range]:
+        """The byte addresses that are shown with a name of code, in ranges, each with the names of one address."""
+        bounds, owners = self._stretches
+        for start, end, owner in zip(bounds, bounds[1:], owners):
+            if owner >= 0 and KINDS[self._of_group(owner)[0][1][2]] == CODE:
+                yield range(start, end)
 
     def places(self, name: str) -> list[int]:
         """The different addresses of a name, or values of a constant."""

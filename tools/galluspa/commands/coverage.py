@@ -27,7 +27,8 @@ def parser() -> Parser:
         dedent("""\
             Prints what the recordings (*.orsr) under folders exercise: operations with their modifiers, results
             and flags, branches both ways, addresses, device words, inputs and stops; and what nothing
-            exercises."""),
+            exercises. This is coverage of the machine's instruction set; `galluspa executed` reports which
+            procedures and lines of the recorded program a suite executes, its code coverage."""),
         "galluspa coverage examples/suite",
     )
     options.add_argument("folders", metavar="SUITE", type=Path, nargs="+", help="a folder of recordings")

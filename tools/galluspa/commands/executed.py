@@ -1,0 +1,131 @@
+"""Reports which words, lines, branches and procedures of the recorded program the recordings of suites execute.
+
+The library counts how often each word is executed, so the counts are exact. Each recording is run from its initial state
+with its inputs, whatever its checkpoints claim.
+"""
+
+import json
+import os
+import sys
+from argparse import Namespace
+from dataclasses import dataclass
+from functools import partial
+from pathlib import Path
+from textwrap import dedent
+
+from galluspa.children import in_parallel
+from galluspa.codecoverage import CodeCoverage
+from galluspa.command import OK, WRONG, Parser, Refused, complain, progress, whole_number, with_libraries, write_file
+from galluspa.escapes import printable
+from galluspa.executions import Executions, executions_of, run_of
+from galluspa.library import Library
+from galluspa.limits import Limit, TimeIsUp
+from galluspa.suites import Case, cases_of
+from galluspa.symbols import symbols_for
+
+
+def parser() -> Parser:
+    """The command line of this tool."""
+    options = Parser(
+        dedent(
+            """\
+            Prints the code coverage of suites: which words, source lines, branches and procedures of the
+            recorded program the recordings (*.orsr) under folders execute, how often, and which none
+            executes. The counts are exact. Each recording is run from its initial state, whatever it claims;
+            `galluspa suite` checks it. Coverage of the machine's instruction set is another thing:
+            `galluspa coverage` reports which operations and devices a suite exercises. A symbol file adds
+            names and source lines (docs/symbols.md); without it, procedures are known by their addresses."""
+        ),
+        "galluspa executed examples/suite/programs",
+        {OK: "all recordings are counted", WRONG: "a recording is not counted, and a line says why"},
+    )
+    options.add_argument("suites", metavar="SUITE", type=Path, nargs="+", help="a folder of recordings, or a recording")
+    options.add_argument(
+        "-j",
+        metavar="N",
+        dest="jobs",
+        type=whole_number(1, 1024),
+        default=os.cpu_count() or 1,
+        help="run N recordings at a time (default: as many as there are processors)",
+    )
+    options.add_symbols_option()
+    options.add_argument("--json", action="store_true", help="print the counts as JSON")
+    options.add_argument(
+        "--info",
+        metavar="FILE",
+        help="write the counts of source lines as a tracefile of lcov, which genhtml and CI systems read; "
+        "the symbol file has to have lines",
+    )
+    options.add_argument("--page", metavar="FILE", help="write the counts as one page (HTML)")
+    options.add_limit_option("end after so many seconds, and name the recordings that were not counted by then")
+    options.add_library_option()
+    return options
+
+
+@dataclass(frozen=True)
+class Counted:
+    """What a recording executes, or why it was not counted."""
+
+    case: Case
+    seen: Executions
+    reason: str = ""
+
+
+def cases(suites: list[Path]) -> list[Case]:
+    """The recordings under folders, and those that are named."""
+    return [it for path in suites for it in ([Case(printable(str(path)), path, "")] if path.is_file() else cases_of(path))]
+
+
+def counted(library: Library, case: Case) -> Counted:
+    """The counts of a recording."""
+    try:
+        run = run_of(library, case.content())
+        return Counted(case, executions_of(run, 0, run.counts[-1]))
+    except (Refused, TimeIsUp) as why:
+        return Counted(case, Executions(), printable(f"{case.name}: {why}".removeprefix(f"{case.name}: {case.name}: ")))
+
+
+def all_counted(library: Library, wanted: list[Case], jobs: int) -> tuple[Executions, list[str]]:
+    """What all recordings execute together, and which were not counted, with the reason."""
+    together, unread = Executions(), list[str]()
+    for done, it in enumerate(in_parallel(jobs, partial(counted, library), wanted), 1):
+        together.add(it.seen)
+        unread += [it.reason] if it.reason else []
+        progress(f"{done} of {len(wanted)} recordings", is_last=done == len(wanted))
+    if len(unread) == len(wanted):
+        more = f" (and {len(unread) - 1:,} more recordings are not counted)" if len(unread) > 1 else ""
+        raise Refused(f"{unread[0]}{more}")
+    return together, unread
+
+
+def write(asked: Namespace, summary: str, unread: list[str], found: CodeCoverage) -> None:
+    """Writes the files that were asked for."""
+    if asked.info:
+        write_file(asked.info, "".join(f"{line}\n" for line in found.lcov()).encode())
+    if asked.page:
+        name = printable(" ".join(path.resolve().name for path in asked.suites))
+        pieces = with_libraries("galluspa.codecoveragepage").page(name, summary, unread, found)
+        write_file(asked.page, "".join(pieces).encode())
+
+
+def main(asked: Namespace) -> int:
+    """Prints what the recordings of suites execute; the status is 1 if one of them was not counted."""
+    if asked.page:
+        with_libraries("galluspa.codecoveragepage")
+    wanted = cases(asked.suites)
+    symbols = symbols_for(asked.symbols, *(it.path for it in wanted))
+    if asked.info and not symbols.has_lines:
+        raise Refused("--info needs a symbol file with source lines (see docs/symbols.md)")
+    seen, unread = all_counted(Library.find(asked.library, Limit(asked.limit)), wanted, asked.jobs)
+    found = CodeCoverage.of(seen, symbols)
+    if symbols and not any(symbols.text(4 * at) for at in seen.visits):
+        raise Refused(f"{symbols.origin} names nothing that is executed: are these the names of another program?")
+    summary = f"{len(wanted) - len(unread):,} recordings, {seen.instructions:,} instructions at {len(seen.visits):,} words"
+    if asked.json:
+        print(json.dumps({"recordings": len(wanted) - len(unread), "not counted": unread, **found.as_object()}))
+    else:
+        sys.stdout.writelines(f"{line}\n" for line in [summary, *(f"not counted: {it}" for it in unread), *found.text()])
+    write(asked, summary, unread, found)
+    for it in unread if asked.json else ():
+        complain(it)
+    return WRONG if unread else OK
