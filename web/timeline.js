@@ -243,7 +243,7 @@ function findRows() {
     screen: cells.some(({ lines }) => lines), hits: hitMarks().length > 0,
   };
   const now = LANES.filter((lane) => has[lane] || rows.includes(lane));
-  if (now.length === rows.length && el("names").childElementCount > now.length) return;
+  if (now.length === rows.length && el("names").childElementCount === now.length + 1) return;
   lanes = { ...lanes, rows: now };
   el("names").replaceChildren(...["", ...now].map((name) => made("span", name)));
 }
