@@ -25,7 +25,9 @@ sys.path.insert(0, str(TOP / "tools"))
 
 from galluspa.version import number  # noqa: E402
 
-BUILT = [name for name in ("crates/oberon_replay/out/oberon_replay", "crates/galluspa/out/libgalluspa.so") if (TOP / name).is_file()]
+BUILT = [
+    name for name in ("crates/oberon_replay/out/oberon_replay", "crates/galluspa/out/libgalluspa.so") if (TOP / name).is_file()
+]
 OPENED = ["web/galluspa.html", "include/galluspa.h"]
 # The modules that make packages of a clone.
 ONLY_HERE = {"packages", "manual", "package", "build_library"}

@@ -67,20 +67,28 @@ class Library:
     def claim(self, text: bytes, at: int, length: int = WORDS) -> tuple[int, State, Words]:
         """The result, and the state and the words that a checkpoint claims. Nothing is to be written if it is refused."""
         state, words = State(count=7), (ctypes.c_uint32 * length)()
-        code = self.c.galluspa_claim(text, ctypes.c_size_t(len(text)), ctypes.c_uint32(at), ctypes.byref(state), words, ctypes.c_size_t(length))
+        code = self.c.galluspa_claim(
+            text, ctypes.c_size_t(len(text)), ctypes.c_uint32(at), ctypes.byref(state), words, ctypes.c_size_t(length)
+        )
         if code and (bytes(state) != bytes(State(count=7)) or any(words)):
             fail("a claim that was refused is written")
         return code, state, words
 
-    def advance(
-        self, state: State, words: Words, inputs: Sequence[Input], to: int, room: int = 1 << 20
-    ) -> tuple[int, bytes]:
+    def advance(self, state: State, words: Words, inputs: Sequence[Input], to: int, room: int = 1 << 20) -> tuple[int, bytes]:
         """The result and the bytes sent. Nothing is to be changed where it is refused."""
         before = bytes(state), bytes(words)
         given = (Input * len(inputs))(*inputs)
         sent, count, size = ctypes.create_string_buffer(room + 1), ctypes.c_size_t(77), ctypes.c_size_t
         code = self.c.galluspa_advance(
-            ctypes.byref(state), words, size(len(words)), given, size(len(inputs)), ctypes.c_uint64(to), sent, size(room), ctypes.byref(count)
+            ctypes.byref(state),
+            words,
+            size(len(words)),
+            given,
+            size(len(inputs)),
+            ctypes.c_uint64(to),
+            sent,
+            size(room),
+            ctypes.byref(count),
         )
         if code and (before != (bytes(state), bytes(words)) or any(sent.raw) or count.value != 77):
             fail("an advance that was refused changes something")
@@ -94,8 +102,16 @@ class Library:
         given, asked = (Input * len(inputs))(*inputs), (Condition * len(conditions))(*(Condition(*it) for it in conditions))
         hit, size = Hit(77, 78), ctypes.c_size_t
         code = self.c.galluspa_find(
-            ctypes.byref(state), words, size(len(words)), given, size(len(inputs)), ctypes.c_uint64(to), asked, size(len(conditions)),
-            ctypes.c_uint32(wanted), ctypes.byref(hit)
+            ctypes.byref(state),
+            words,
+            size(len(words)),
+            given,
+            size(len(inputs)),
+            ctypes.c_uint64(to),
+            asked,
+            size(len(conditions)),
+            ctypes.c_uint32(wanted),
+            ctypes.byref(hit),
         )
         if before != (bytes(state), bytes(words)) or (code and (hit.count, hit.condition) != (77, 78)):
             fail("a search changes something")
@@ -111,8 +127,16 @@ class Library:
         for it in counts:
             ctypes.memset(it, 0xAA, ctypes.sizeof(it))
         code = self.c.galluspa_profile(
-            ctypes.byref(state), words, size(len(words)), given, size(len(inputs)), ctypes.c_uint64(to),
-            counts[0], size(lengths[0]), counts[1], size(lengths[1])
+            ctypes.byref(state),
+            words,
+            size(len(words)),
+            given,
+            size(len(inputs)),
+            ctypes.c_uint64(to),
+            counts[0],
+            size(lengths[0]),
+            counts[1],
+            size(lengths[1]),
         )
         if before != (bytes(state), bytes(words)) or (code and any(bytes(it).strip(b"\xaa") for it in counts)):
             fail("a profile changes something")

@@ -18,7 +18,11 @@ def changed(text: bytes, at: int, to: int | None = None) -> bytes:
 
 def mutants() -> Iterator[bytes]:
     """Recordings with one byte changed, and some cut off or too long."""
-    for text in (STORED, run(PROGRAM, "migrate", given=STORED)[0], run(PROGRAM, "record", given=(EXAMPLES / "keys.json").read_bytes())[0]):
+    for text in (
+        STORED,
+        run(PROGRAM, "migrate", given=STORED)[0],
+        run(PROGRAM, "record", given=(EXAMPLES / "keys.json").read_bytes())[0],
+    ):
         yield text
         for at in [*range(0, 24), *range(24, len(text), 1 + len(text) // 40), *range(len(text) - 300, len(text), 9)]:
             yield changed(text, at)
@@ -58,8 +62,23 @@ def compare_answers(library: Library) -> None:
     """The library records and migrates as the program does."""
     sessions = [path.read_bytes() for path in sorted(EXAMPLES.glob("*.json"))]
     hello = (EXAMPLES / "hello.json").read_bytes()
-    sessions += [b"", b"{}", STORED, hello[:-3], hello.replace(b'"R":[', b'"R":[4294967296,', 1), hello.replace(b'"PC":0', b'"PC":4194304', 1)]
-    texts = [STORED, FACE, (EXAMPLES / "face-version-1.orsr").read_bytes(), b"", STORED[:-1], changed(STORED, 4), changed(STORED, 40)]
+    sessions += [
+        b"",
+        b"{}",
+        STORED,
+        hello[:-3],
+        hello.replace(b'"R":[', b'"R":[4294967296,', 1),
+        hello.replace(b'"PC":0', b'"PC":4194304', 1),
+    ]
+    texts = [
+        STORED,
+        FACE,
+        (EXAMPLES / "face-version-1.orsr").read_bytes(),
+        b"",
+        STORED[:-1],
+        changed(STORED, 4),
+        changed(STORED, 40),
+    ]
     for name, given in (("record", sessions), ("migrate", texts)):
         for it in given:
             output, status = run(PROGRAM, name, given=it)
@@ -120,11 +139,17 @@ def make_live(library: Library) -> None:
         state.count += 10
         code, text, _ = library.extend(text, [], state, words, b"")
         line, status = run(PROGRAM, "check", given=text)
-        expect(f"a false checkpoint of {name}", (code, line.split(b" at ")[0], status), (0, f"false checkpoint {last + 1}".encode(), 1))
+        expect(
+            f"a false checkpoint of {name}", (code, line.split(b" at ")[0], status), (0, f"false checkpoint {last + 1}".encode(), 1)
+        )
     _, state, words = library.claim(STORED, 1)
     code, sent = library.advance(state, words, [], 150)
     code, text, _ = library.extend(STORED, [], state, words, sent)
-    expect("an extension of a recording of version 1", (code, run(PROGRAM, "check", given=text)[0]), (0, b"accepted 2 checkpoints 150 steps\n"))
+    expect(
+        "an extension of a recording of version 1",
+        (code, run(PROGRAM, "check", given=text)[0]),
+        (0, b"accepted 2 checkpoints 150 steps\n"),
+    )
     print("begin, extend: four recordings made while the machine runs are accepted at each checkpoint; a false claim is found")
 
 
@@ -155,7 +180,18 @@ def read_together(library: Library) -> None:
     memory = ctypes.create_string_buffer(text, len(text))
     size, out, count = ctypes.c_size_t, ctypes.create_string_buffer(1 << 21), ctypes.c_size_t(0)
     code = library.c.galluspa_extend(
-        memory, size(len(text)), memory, size(0), ctypes.byref(state), words, size(WORDS), memory, size(9), out, size(1 << 21), ctypes.byref(count)
+        memory,
+        size(len(text)),
+        memory,
+        size(0),
+        ctypes.byref(state),
+        words,
+        size(WORDS),
+        memory,
+        size(9),
+        out,
+        size(1 << 21),
+        ctypes.byref(count),
     )
     apart = library.extend(text, [], state, words, text[:9])
     expect("an extension whose bytes sent are those of its recording", (code, out.raw[: count.value]), apart[:2])

@@ -15,8 +15,13 @@ JUMP = branch(ALWAYS, -1)
 LAST = WORDS - 1
 # Words of memory, the count up to which they run, and how often each word is visited and left.
 ROWS: Sequence[tuple[str, Mapping[int, int], int, int, Mapping[int, tuple[int, int]]]] = (
-    ("a loop of three rounds", {0: imm(MOV, 1, 0, 3), 1: imm(SUB, 1, 1, 1), 2: branch(NE, -2), 3: JUMP}, 0, 100,
-     {0: (1, 0), 1: (3, 0), 2: (3, 2), 3: (93, 93)}),
+    (
+        "a loop of three rounds",
+        {0: imm(MOV, 1, 0, 3), 1: imm(SUB, 1, 1, 1), 2: branch(NE, -2), 3: JUMP},
+        0,
+        100,
+        {0: (1, 0), 1: (3, 0), 2: (3, 2), 3: (93, 93)},
+    ),
     ("no count", {0: JUMP}, 0, 0, {}),
     ("one count", {0: JUMP}, 0, 1, {0: (1, 1)}),
     ("a branch to the next word", {0: branch(ALWAYS, 0), 1: JUMP}, 0, 5, {0: (1, 0), 1: (4, 4)}),
@@ -62,7 +67,9 @@ def count_instructions(library: Library) -> None:
     beyond = machine({0: JUMP}, pc=WORDS)
     expect("a program counter outside memory", counted(*library.profile(*beyond, [], 1 << 40)[1:]), {})
     split_counts(library)
-    print(f"profile: the counts of hello and of {len(ROWS) + 2} programs are those worked out by hand; of parts of a run, they add up")
+    print(
+        f"profile: the counts of hello and of {len(ROWS) + 2} programs are those worked out by hand; of parts of a run, they add up"
+    )
 
 
 def split_counts(library: Library) -> None:
@@ -106,7 +113,11 @@ def trace_processors(library: Library) -> None:
         number += steps
     for count, first in ((4, 7), (5, 7), (6, 9), (7, 9)):
         code, waiting = library.steps(*machine(WAITING), [Input(count, 2, 1)], 12)
-        expect(f"the trace with a switch at {count}", (code, [it.pc for it in waiting].index(3), [it.r[0] for it in waiting].index(1)), (0, first, first - 1))
+        expect(
+            f"the trace with a switch at {count}",
+            (code, [it.pc for it in waiting].index(3), [it.r[0] for it in waiting].index(1)),
+            (0, first, first - 1),
+        )
     code, stopped = library.steps(*machine({0: imm(DIV, 0, 0, 0)}), [], 3)
     expect("the trace of a stop", (code, [(it.pc, it.stop) for it in stopped]), (0, [(0, 0), (0, 2), (0, 2)]))
     expect("a trace of no count", library.steps(*machine({0: JUMP}), [], 0), (0, []))

@@ -25,7 +25,11 @@ def lockstep(folder: Path, flags: Sequence[str]) -> None:
     expect("ANN in machine.h", header.count("x = b & ~c;"), 1)
     (folder / "planted").mkdir()
     (folder / "planted/machine.h").write_text(header.replace("x = b & ~c;", "x = b & c;"))
-    expect("lockstep.c with a wrong ANN", run("cc", *source, f"-I{folder}/planted", f"-I{TOP}/reference", *flags, "-o", wrong), (b"", 0))
+    expect(
+        "lockstep.c with a wrong ANN",
+        run("cc", *source, f"-I{folder}/planted", f"-I{TOP}/reference", *flags, "-o", wrong),
+        (b"", 0),
+    )
     found = 0
     for seed in range(1, 41):
         output, status = run(wrong, str(seed))

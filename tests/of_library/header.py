@@ -8,8 +8,17 @@ from pathlib import Path
 from of_library.trial import CRATE, TOP, WARNINGS, expect, fail, run
 
 # How a type of an export's parameter is declared in C; a slice is a pointer and a length.
-SCALARS = {"u8": "uint8_t", "u32": "uint32_t", "u64": "uint64_t", "usize": "size_t", "RawState": "galluspa_state", "RawInput": "galluspa_input",
-           "RawCondition": "galluspa_condition", "RawHit": "galluspa_hit", "RawProcessor": "galluspa_processor"}
+SCALARS = {
+    "u8": "uint8_t",
+    "u32": "uint32_t",
+    "u64": "uint64_t",
+    "usize": "size_t",
+    "RawState": "galluspa_state",
+    "RawInput": "galluspa_input",
+    "RawCondition": "galluspa_condition",
+    "RawHit": "galluspa_hit",
+    "RawProcessor": "galluspa_processor",
+}
 SIZES = {"u8": 1, "u32": 4, "u64": 8}
 # The limits of the header that are constants of other crates: what they are called there, and where.
 LIMITS = {
@@ -114,8 +123,7 @@ def header_test() -> str:
         lines.append(f'_Static_assert(sizeof({c_name}) == {size}, "size of {c_name}");')
         for it in fields:
             of = f"(({c_name} *)0)->{it.name}"
-            lines.append(
-                f'_Static_assert(offsetof({c_name}, {it.name}) == {it.at} && sizeof {of} == {it.size}, "{it.name}");')
+            lines.append(f'_Static_assert(offsetof({c_name}, {it.name}) == {it.at} && sizeof {of} == {it.size}, "{it.name}");')
             first = of if it.size == SIZES[it.unit] else of + "[0]"
             lines.append(f'_Static_assert(_Generic({first}, {SCALARS[it.unit]}: 1, default: 0), "type of {it.name}");')
     for name, offsets in (("galluspa_state", STATE_OFFSETS), ("galluspa_processor", PROCESSOR_OFFSETS)):
@@ -164,11 +172,18 @@ def compare_header(folder: Path) -> list[str]:
         ("size_t galluspa_migrate(const ", "size_t galluspa_migrate("),
         ("WORDS = 262144", "WORDS = 262145"),
         ("uint32_t wanted,\n                      galluspa_hit *hit", "galluspa_hit *hit,\n                      uint32_t wanted"),
-        ("uint64_t to, const galluspa_condition *conditions, size_t conditions_len", "const galluspa_condition *conditions, size_t conditions_len, uint64_t to"),
+        (
+            "uint64_t to, const galluspa_condition *conditions, size_t conditions_len",
+            "const galluspa_condition *conditions, size_t conditions_len, uint64_t to",
+        ),
     ]
     kinds_of = list(declared_constants())
     kinds_of = kinds_of[kinds_of.index("GALLUSPA_COUNTER") : kinds_of.index("GALLUSPA_STOPS") + 1]
-    swaps = [("uint32_t h; ", "uint32_t pc; "), ("uint32_t leds; ", "uint32_t mouse; "), ("uint64_t count;     /* the count", "uint64_t condition; /* the index")]
+    swaps = [
+        ("uint32_t h; ", "uint32_t pc; "),
+        ("uint32_t leds; ", "uint32_t mouse; "),
+        ("uint64_t count;     /* the count", "uint64_t condition; /* the index"),
+    ]
     swaps += [(f"{one} =", f"{other} =") for one, other in [*zip(kinds_of, kinds_of[1:]), ("GALLUSPA_FIRST", "GALLUSPA_LAST")]]
     for old in (it for pair in (*((old,) for old, _ in wrong), *swaps) for it in pair):
         if old not in header:
@@ -178,5 +193,7 @@ def compare_header(folder: Path) -> list[str]:
     for text, change in zip(headers, [*wrong, *swaps], strict=True):
         if not compiles(text)[1]:
             fail(f"the comparison of the header passes {change}")
-    print(f"header: {len(names)} functions, {len(declared_constants())} enumerators and five structs are the crate's; {len(headers)} wrong headers found")
+    print(
+        f"header: {len(names)} functions, {len(declared_constants())} enumerators and five structs are the crate's; {len(headers)} wrong headers found"
+    )
     return sorted(names)

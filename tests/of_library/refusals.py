@@ -34,7 +34,15 @@ def refuse_making(library: Library) -> None:
     expect("a beginning without room", library.begin(first, words, length - 1)[::2], (2, length))
     half = (ctypes.c_uint32 * (WORDS // 2))()
     expect("a beginning of half the words", library.begin(first, half)[0], 1)
-    for fields in (dict(count=1), dict(pc=4194304), dict(flags=16), dict(stop=5), dict(phase=1), dict(switches=4096), dict(key_count=17)):
+    for fields in (
+        dict(count=1),
+        dict(pc=4194304),
+        dict(flags=16),
+        dict(stop=5),
+        dict(phase=1),
+        dict(switches=4096),
+        dict(key_count=17),
+    ):
         expect(f"a beginning with {fields}", library.begin(altered(first, **fields), words)[0], 1)
 
     later = altered(first, count=100)
@@ -50,7 +58,9 @@ def refuse_making(library: Library) -> None:
         ("the same count again", more, [], later, words), ("a stop of 5", text, [], altered(later, stop=5), words),
     ]  # fmt: skip
     for what, given, inputs, state, memory in bad:
-        expect(f"an extension with {what}", library.extend(given, inputs, state, memory, b"")[0], 4 if what == "no recording" else 1)
+        expect(
+            f"an extension with {what}", library.extend(given, inputs, state, memory, b"")[0], 4 if what == "no recording" else 1
+        )
     refuse_too_much(library, text, later, words)
     refuse_pending(library, first, words)
     print(f"begin, extend: {len(bad) + 19} refusals write nothing")
@@ -68,7 +78,9 @@ def refuse_too_much(library: Library, text: bytes, later: State, words: Words) -
     many = bytearray(bytes(Input(7, 4, 65)) * 1_000_001)
     for count, wanted in ((1_000_001, 6), (1_000_000, 0)):
         inputs = (Input * count).from_buffer(many)
-        expect(f"{count:,} inputs, where there may be 1,000,000", library.extend(text, inputs, later, words, b"", 1 << 25)[0], wanted)
+        expect(
+            f"{count:,} inputs, where there may be 1,000,000", library.extend(text, inputs, later, words, b"", 1 << 25)[0], wanted
+        )
     # (recorded at once: each extension reads what the ones before wrote, so that 4,095 of them take most of a minute)
     session = json.loads((EXAMPLES / "hello.json").read_text())
     session["checkpoints"] = list(range(1, 4096))
@@ -95,7 +107,11 @@ def refuse_pending(library: Library, first: State, words: Words) -> None:
     begun = read(library.begin(state, waiting)[1])
     for count in (0, 10):
         text = write(dataclasses.replace(begun, events=[Event(count, 4, 65)]))
-        expect(f"the check of a recording with a key at {count}", run(PROGRAM, "check", given=text), (b"accepted 0 checkpoints 0 steps\n", 0))
+        expect(
+            f"the check of a recording with a key at {count}",
+            run(PROGRAM, "check", given=text),
+            (b"accepted 0 checkpoints 0 steps\n", 0),
+        )
         code, now, memory = library.claim(text, 0)
         expect("the run without the key", (code, library.advance(now, memory, [], 20)), (0, (0, b"")))
         expect(f"an extension of a recording with a key at {count}", library.extend(text, [], now, memory, b"")[0], 10)
@@ -104,7 +120,11 @@ def refuse_pending(library: Library, first: State, words: Words) -> None:
     expect("the run with the key", library.advance(state, waiting, [key], 20), (0, b""))
     code, text, _ = library.extend(write(begun), [key], state, waiting, b"")
     expect("the extension with the key", (code, run(PROGRAM, "check", given=text)[0]), (0, b"accepted 1 checkpoints 20 steps\n"))
-    expect("a false extension", library.extend(write(dataclasses.replace(begun, events=[Event(10, 4, 65)])), [key], state, waiting, b"")[0], 10)
+    expect(
+        "a false extension",
+        library.extend(write(dataclasses.replace(begun, events=[Event(10, 4, 65)])), [key], state, waiting, b"")[0],
+        10,
+    )
 
 
 def refuse_live(library: Library) -> None:
@@ -123,7 +143,14 @@ def refuse_live(library: Library) -> None:
             words = (ctypes.c_uint32 * length)(*words[:length])
         expect(what, library.advance(state, words, list(inputs), 100, room)[0], code)
 
-    good: list[dict[str, Any]] = [dict(), dict(flags=15), dict(pc=4194303), dict(rate=7, phase=6), dict(key_count=16), dict(inputs=[Input(3, 3, 0x073FF3FF)])]
+    good: list[dict[str, Any]] = [
+        dict(),
+        dict(flags=15),
+        dict(pc=4194303),
+        dict(rate=7, phase=6),
+        dict(key_count=16),
+        dict(inputs=[Input(3, 3, 0x073FF3FF)]),
+    ]
     for fields in good:
         refused(f"an advance with {fields}", 0, **fields)
     refused("room for all that is sent", 0, room=13)

@@ -27,7 +27,9 @@ def register(state: State, number: int) -> int:
     return state.r[number] if number < 16 else (state.h, state.flags)[number - 16]
 
 
-def holds(condition: Sought, before: State, after: State, memory: Memory, later: Memory, inputs: Sequence[Input], sent: bytes) -> bool:
+def holds(
+    condition: Sought, before: State, after: State, memory: Memory, later: Memory, inputs: Sequence[Input], sent: bytes
+) -> bool:
     """Whether a condition holds at a step: by the machine and its memory before and after it, the inputs of its count, and what it
     sent."""
     kind, first, end, value = condition
@@ -49,7 +51,9 @@ def holds(condition: Sought, before: State, after: State, memory: Memory, later:
 def some_conditions(states: Sequence[State], memories: Sequence[Memory]) -> Iterator[list[Sought]]:
     """Conditions that hold at some counts of a run, and some that hold at none."""
     pcs = sorted({it.pc for it in states})
-    touched = sorted({byte for it, memory in zip(states, memories) for access in [accessed(it, memory)] if access for byte in access[1]})
+    touched = sorted(
+        {byte for it, memory in zip(states, memories) for access in [accessed(it, memory)] if access for byte in access[1]}
+    )
     yield from ([(1, pc, pc + 1, 0)] for pc in (pcs[0], pcs[len(pcs) // 2], pcs[-1]))
     yield from ([it] for it in ((1, pcs[-1] + 1, 1 << 22, 0), (6, 0, 0, 0), (9, 0, 0, 0), (8, 0, 0, 4), (8, 0, 0, 5)))
     yield []
@@ -85,7 +89,10 @@ def find_steps(library: Library) -> None:
             ]  # fmt: skip
             for low, high in ((0, steps), (0, steps // 2), (steps // 3, steps), (0, 0)):
                 there = [it for it in hits if low <= it[0] < high]
-                wanted = [(0, there[0]) if there else (11, None), (0, next(it for it in there if it[0] == there[-1][0])) if there else (11, None)]
+                wanted = [
+                    (0, there[0]) if there else (11, None),
+                    (0, next(it for it in there if it[0] == there[-1][0])) if there else (11, None),
+                ]
                 given = (states[low], (ctypes.c_uint32 * WORDS).from_buffer_copy(memories[low]))
                 answers = [library.find(*given, events, high, conditions, which) for which in (0, 1)]
                 expect(f"{name}: {conditions} from {low} to {high}", answers, wanted)

@@ -34,7 +34,9 @@ class Person(Desk):
         # What is above it may have grown in the frame before.
         self.page.answer("new Promise((done) => requestAnimationFrame(() => requestAnimationFrame(() => done())))")
         self.page.answer(f"{found}.scrollIntoView({{ block: 'nearest' }})")
-        x, y = self.page.answer(f"(({{ left, top, width, height }}) => [left + width / 2, top + height / 2])({found}.getBoundingClientRect())")
+        x, y = self.page.answer(
+            f"(({{ left, top, width, height }}) => [left + width / 2, top + height / 2])({found}.getBoundingClientRect())"
+        )
         for kind in ("mouseMoved", "mousePressed", "mouseReleased"):
             self.page.point(kind, x, y)
 
@@ -151,7 +153,11 @@ def keep_what_is_taken_over(who: Person, old: int, new: int) -> None:
     who.press_button("#g-branches button")
     who.page.wait(f"{COUNT} === {old}")
     expect("the keys of the older one", who.keys(), "old")
-    expect("the branch beside it", who.page.answer("document.getElementById('g-branches').textContent").split(" from")[0], "Other branches: branch 2")
+    expect(
+        "the branch beside it",
+        who.page.answer("document.getElementById('g-branches').textContent").split(" from")[0],
+        "Other branches: branch 2",
+    )
 
 
 def go_on_with_branch(who: Person) -> None:

@@ -109,11 +109,13 @@ class Desk:
         """Drops a file on the page."""
         content = base64.b64encode(text).decode()
         self.clear()
-        self.page.answer(f"""(() => {{
+        self.page.answer(
+            f"""(() => {{
           const data = new DataTransfer();
           data.items.add(new File([Uint8Array.from(atob("{content}"), (it) => it.charCodeAt(0))], "{name}"));
           dispatchEvent(new DragEvent("drop", {{ dataTransfer: data, cancelable: true }}));
-        }})()""")
+        }})()"""
+        )
 
     def start(self, name: str, text: bytes) -> None:
         """Opens a file, and waits until its machine is there."""
@@ -142,7 +144,9 @@ class Desk:
         self.page.wait(JUDGED)
         wanted, status = program("check", text)
         expect(what, self.page.answer(LINE), wanted)
-        expect(f"the colour of {what}", self.page.answer("el('line').className"), f"line {('accepted', 'false', 'refused')[status]}")
+        expect(
+            f"the colour of {what}", self.page.answer("el('line').className"), f"line {('accepted', 'false', 'refused')[status]}"
+        )
 
     def expect_refused(self, name: str, line: str) -> None:
         """Expects a file to be refused with a line."""

@@ -9,7 +9,11 @@ from of_page.desk import SENT, Desk, expect, fail, shown
 from of_tools.samples import EXAMPLES
 from of_page.timeline import EXACT, look_at, page_dots, run_to_end
 
-CARD, LINE_OF_CARD, CHEAT = shown("card"), "el('card').querySelector('.line').textContent", "el('card').querySelector('.cheat .line.false')"
+CARD, LINE_OF_CARD, CHEAT = (
+    shown("card"),
+    "el('card').querySelector('.line').textContent",
+    "el('card').querySelector('.cheat .line.false')",
+)
 POINTS = "el('card').querySelector('h2')?.textContent"
 KEY = 4
 # The rows of the digits, from the uppermost down.
@@ -28,7 +32,9 @@ def click_card(desk: Desk, name: str) -> None:
     """Clicks on a card of the empty page with the mouse."""
     # The screen has its size in the frame after the list of what is kept is shown.
     desk.page.answer("new Promise((done) => requestAnimationFrame(() => requestAnimationFrame(() => done())))")
-    x, y = desk.page.answer(f"(({{ left, top, width, height }}) => [left + width / 2, top + height / 2])(el('{name}').getBoundingClientRect())")
+    x, y = desk.page.answer(
+        f"(({{ left, top, width, height }}) => [left + width / 2, top + height / 2])(el('{name}').getBoundingClientRect())"
+    )
     desk.page.send_mouse("mousePressed", x, y, time.time(), 1)
     desk.page.send_mouse("mouseReleased", x, y, time.time())
 
@@ -60,7 +66,9 @@ def written_points(desk: Desk) -> int:
     """The points that the machine has drawn in the wall above: three digits of five rows of three squares."""
     dots = page_dots(desk)
     is_white = lambda x, y: not dots[128 * y + x // 8] >> x % 8 & 1
-    squares = lambda column: tuple("".join("01"[is_white(32 * column + 11 + 4 * at, 23 * 32 + 7 + 4 * row)] for at in range(3)) for row in range(4, -1, -1))
+    squares = lambda column: tuple(
+        "".join("01"[is_white(32 * column + 11 + 4 * at, 23 * 32 + 7 + 4 * row)] for at in range(3)) for row in range(4, -1, -1)
+    )
     return int("".join(str(DIGITS.index(" ".join(squares(column)))) for column in (14, 15, 16)))
 
 

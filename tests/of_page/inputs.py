@@ -121,9 +121,13 @@ def compose_text(desk: Desk) -> None:
     page.answer("notice(); el('keys').value = 'ps2'")
     page.insert("é")
     desk.expect_notice("composed text as PS/2 codes", "é: PS/2 codes have no composed text.")
-    page.answer("notice(); el('keys').value = 'characters'; window.context = el('screen').editContext; el('screen').editContext = null")
+    page.answer(
+        "notice(); el('keys').value = 'characters'; window.context = el('screen').editContext; el('screen').editContext = null"
+    )
     page.press("Dead")
-    desk.expect_notice("a dead key where nothing is composed", "This browser composes no characters here: send them over the serial line.")
+    desk.expect_notice(
+        "a dead key where nothing is composed", "This browser composes no characters here: send them over the serial line."
+    )
     page.answer("el('screen').editContext = context")
     expect("what was sent", page.answer(SENT), "\\e9\\fc\\df")
     page.press("ArrowUp")
@@ -154,7 +158,11 @@ def go_to_checkpoints(desk: Desk) -> None:
     page.answer("el('more').open = true; el('each').focus()")
     page.press("ArrowUp")
     page.wait("!app.latest.on")
-    expect("the goal after a change of the speed", page.answer("[countOf(app.latest.state), el('speed').value, el('each').value]"), [25000000, "fast", "2"])
+    expect(
+        "the goal after a change of the speed",
+        page.answer("[countOf(app.latest.state), el('speed').value, el('each').value]"),
+        [25000000, "fast", "2"],
+    )
     expect("what has the focus after an arrow", page.answer("document.activeElement.id"), "g-each")
     page.answer("el('speed').value = 'clock'; el('switches').querySelector('input[value=\"3\"]').click()")
     desk.click("step")
@@ -165,11 +173,17 @@ def go_to_checkpoints(desk: Desk) -> None:
     desk.start("switched.orsr", switched)
     desk.click("next")
     page.wait("countOf(app.latest.state) === 20 && !app.latest.on")
-    expect("the controls after a replay", page.answer("[el('switches').querySelectorAll('input:checked').length, el('mouse-x').value]"), [2, "7"])
+    expect(
+        "the controls after a replay",
+        page.answer("[el('switches').querySelectorAll('input:checked').length, el('mouse-x').value]"),
+        [2, "7"],
+    )
     desk.draw()
     for _ in range(6):
         page.answer("app.live.ask('setPace', { fast: false, seconds: 0 })")
-    frames = page.answer("new Promise((done) => setTimeout(() => { const { frames } = app.latest; setTimeout(() => done(app.latest.frames - frames), 300); }, 50))")
+    frames = page.answer(
+        "new Promise((done) => setTimeout(() => { const { frames } = app.latest; setTimeout(() => done(app.latest.frames - frames), 300); }, 50))"
+    )
     if frames > 40:
         fail(f"after six changes of the speed there are {frames} frames in 0.3 s")
     print("controls: the end of a session is a goal, a goal outlives a change of the speed, and switches show the machine's own")
@@ -181,7 +195,9 @@ def wait_quietly(desk: Desk) -> None:
     page.answer("el('speed').value = 'clock'")
     desk.draw()
     page.wait("app.latest.frames > 100")
-    page.answer("window.posted = 0; window.heardBefore = app.live.worker.onmessage; app.live.worker.onmessage = (event) => (posted++, heardBefore(event))")
+    page.answer(
+        "window.posted = 0; window.heardBefore = app.live.worker.onmessage; app.live.worker.onmessage = (event) => (posted++, heardBefore(event))"
+    )
     turns = "new Promise((done) => { const { frames } = app.latest; posted = 0; setTimeout(() => done([app.latest.frames - frames, posted]), 1500); })"
     frames, posted = page.answer(turns)
     if frames > 36 or posted > 12:
@@ -189,7 +205,13 @@ def wait_quietly(desk: Desk) -> None:
     page.press("k")
     page.wait(f"{SENT} === 'k'")
     page.answer("app.live.worker.onmessage = heardBefore")
-    expect("whether turns are short after a key", page.answer("new Promise((done) => { const { frames } = app.latest; setTimeout(() => done(app.latest.frames - frames > 8), 400); })"), True)
+    expect(
+        "whether turns are short after a key",
+        page.answer(
+            "new Promise((done) => { const { frames } = app.latest; setTimeout(() => done(app.latest.frames - frames > 8), 400); })"
+        ),
+        True,
+    )
     desk.start("counting.json", json.dumps(session([0x40080001, 0x41080001, 0xE7FFFFFD], [])).encode())
     desk.go_on()
     cell = "registerCells.get('R0').holder.textContent"

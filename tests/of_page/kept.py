@@ -166,8 +166,10 @@ def forget_and_undo(desk: Desk) -> None:
 def ask_before_dropping(desk: Desk) -> None:
     """Where the browser can't keep a recording, the page says so, and another machine is opened only when the user says so."""
     page = desk.page
-    page.answer("window.puts = IDBObjectStore.prototype.put; IDBObjectStore.prototype.put = () => { throw new Error('no room'); }; "
-                "window.confirm = (said) => { window.asked = said; return window.says; }")
+    page.answer(
+        "window.puts = IDBObjectStore.prototype.put; IDBObjectStore.prototype.put = () => { throw new Error('no room'); }; "
+        "window.confirm = (said) => { window.asked = said; return window.says; }"
+    )
     desk.draw()
     page.press("d")
     page.wait(f"{SENT} === 'd'")
@@ -183,8 +185,10 @@ def ask_before_dropping(desk: Desk) -> None:
 def return_unkept(desk: Desk) -> None:
     """Branches that the browser can't keep stay in the page, which asks before it drops them."""
     page = desk.page
-    page.answer("window.puts = IDBObjectStore.prototype.put; IDBObjectStore.prototype.put = () => { throw new Error('no room'); }; "
-                "window.confirm = (said) => { window.asked = said; return false; }")
+    page.answer(
+        "window.puts = IDBObjectStore.prototype.put; IDBObjectStore.prototype.put = () => { throw new Error('no room'); }; "
+        "window.confirm = (said) => { window.asked = said; return false; }"
+    )
     desk.draw()
     for key in "ab":
         page.press(key)
@@ -250,7 +254,11 @@ def survive_other_pages(desk: Desk) -> None:
         desk.reload()
         page.wait("el('kept-list').firstChild")
         texts = page.answer("[...document.querySelectorAll('#g-kept p')].map((it) => it.textContent)")
-        expect("how many are unreadable", sum(it.endswith("cannot be read: this page did not write it.") for it in texts), len(texts) - 1)
+        expect(
+            "how many are unreadable",
+            sum(it.endswith("cannot be read: this page did not write it.") for it in texts),
+            len(texts) - 1,
+        )
         expect("how many items are shown", len(texts), 12)
         desk.draw()
         page.answer(f"{BUTTONS}.find((it) => it.textContent === 'Resume').click()")
@@ -269,9 +277,18 @@ def survive_other_pages(desk: Desk) -> None:
         type_and_pause(desk, "k")
         expect("what is kept after all was forgotten", [name for name, *_ in items(page)], ["draw"])
     forget_all(desk)
-    print("kept: 11 odd items of another page are unreadable, one is refused, and a database of another version is shown and forgotten")
+    print(
+        "kept: 11 odd items of another page are unreadable, one is refused, and a database of another version is shown and forgotten"
+    )
 
 
 TASKS = (
-    keep_each, keep_under_its_name, resume_twice, forget_and_undo, survive_other_pages, ask_before_dropping, return_unkept, keep_seldom,
+    keep_each,
+    keep_under_its_name,
+    resume_twice,
+    forget_and_undo,
+    survive_other_pages,
+    ask_before_dropping,
+    return_unkept,
+    keep_seldom,
 )

@@ -38,7 +38,11 @@ def fit_laptops(desk: Desk) -> None:
             page.resize(width, height)
             page.answer(SETTLED)
             what = f"at {width} by {height}, {where}"
-            expect(f"the page {what}", page.answer("[document.documentElement.scrollWidth, document.documentElement.scrollHeight]"), [width, height])
+            expect(
+                f"the page {what}",
+                page.answer("[document.documentElement.scrollWidth, document.documentElement.scrollHeight]"),
+                [width, height],
+            )
             expect(f"what overlaps or is outside {what}", page.answer(OVERLAPS), [])
             parts = "['screen', 'stay', 'track'].every((it) => el(it).getBoundingClientRect().bottom <= innerHeight)"
             expect(f"whether screen, buttons and lanes are in sight {what}", page.answer(parts), True)
@@ -49,7 +53,11 @@ def fit_laptops(desk: Desk) -> None:
     wide, high = page.answer("[el('screen').offsetWidth, el('screen').offsetHeight]")
     if wide < 595 or high < 445:
         fail(f"at 1366 by 625 the screen has {wide} by {high} points")
-    expect("the panel beside it", page.answer("el('screen').getBoundingClientRect().right < document.querySelector('.side').getBoundingClientRect().left"), True)
+    expect(
+        "the panel beside it",
+        page.answer("el('screen').getBoundingClientRect().right < document.querySelector('.side').getBoundingClientRect().left"),
+        True,
+    )
     print(f"laptops: all is in the window at four sizes; the screen has {wide} by {high} points at 1366 by 625")
 
 
@@ -81,8 +89,14 @@ def show_chip(desk: Desk) -> None:
     page.resize(1366, 625)
     desk.start("face.orsr", FACE)
     page.wait(JUDGED)
-    expect("whether the chip and the line are shown", page.answer("[el('headline').checkVisibility(), el('line').checkVisibility()]"), [True, False])
-    x, y = page.answer("(({ left, top, width, height }) => [left + width / 2, top + height / 2])(el('headline').getBoundingClientRect())")
+    expect(
+        "whether the chip and the line are shown",
+        page.answer("[el('headline').checkVisibility(), el('line').checkVisibility()]"),
+        [True, False],
+    )
+    x, y = page.answer(
+        "(({ left, top, width, height }) => [left + width / 2, top + height / 2])(el('headline').getBoundingClientRect())"
+    )
     expect("whether it is in the first row", y < 40, True)
     inside = "(el('line').checkVisibility() && el('line').getBoundingClientRect().bottom < innerHeight)"
     for kind in ("mouseMoved", "mousePressed", "mouseReleased"):
@@ -107,7 +121,9 @@ def hide_empty_lanes(desk: Desk) -> None:
     page.press("a")
     page.wait(f"({names}).includes('keys')")
     press_button(desk, "run")
-    page.wait(f"!app.latest.on && ({names}).join() === 'keys,serial,screen,keyframes' || ({names}).join() === 'keys,serial,keyframes'")
+    page.wait(
+        f"!app.latest.on && ({names}).join() === 'keys,serial,screen,keyframes' || ({names}).join() === 'keys,serial,keyframes'"
+    )
     expect("the height of the timeline", page.answer("el('track').offsetHeight"), high)
     page.answer("el('each').value = 5")
     print("lanes: those that are empty take no room; the first four change nothing")
@@ -121,10 +137,12 @@ def turn_wheel(desk: Desk) -> None:
     middle = "(({ left, top, width, height }) => [left + width / 2, top + height / 2])(el('track').getBoundingClientRect())"
     page.answer("scrollTo(0, 0); el('track').scrollIntoView({ block: 'nearest' })")
     before, place = page.answer(SPAN), page.answer("scrollY")
-    page.turn_wheel(*page.answer(middle), 200)
+    x, y = page.answer(middle)
+    page.turn_wheel(x, y, 200)
     page.wait(f"scrollY > {place} + 50")
     expect("the span after the wheel", page.answer(SPAN), before)
-    page.turn_wheel(*page.answer(middle), -200, ctrl=True)
+    x, y = page.answer(middle)
+    page.turn_wheel(x, y, -200, ctrl=True)
     page.wait(f"timeline.to - timeline.from < {before[1] - before[0]}")
     page.answer("scrollTo(0, 0)")
     print("wheel: it scrolls the page, and zooms with Ctrl")
@@ -144,8 +162,10 @@ def fit_phone(desk: Desk) -> None:
     page.point("mouseReleased", left + 0.586 * width, top + 0.715 * width * 0.75)
     page.wait(f"{CARD}.includes(': sure') || {CARD}.includes('initial memory')")
     page.answer(SETTLED)
-    shown = page.answer("[scrollY, el('screen').getBoundingClientRect().bottom <= el('card').getBoundingClientRect().top + 1, "
-                        "el('card').getBoundingClientRect().bottom <= el('stay').getBoundingClientRect().top + 1 || el('stay').getBoundingClientRect().bottom <= innerHeight]")
+    shown = page.answer(
+        "[scrollY, el('screen').getBoundingClientRect().bottom <= el('card').getBoundingClientRect().top + 1, "
+        "el('card').getBoundingClientRect().bottom <= el('stay').getBoundingClientRect().top + 1 || el('stay').getBoundingClientRect().bottom <= innerHeight]"
+    )
     expect("where the page is, and whether the screen and the buttons are in sight beside the answer", shown, [0, True, True])
     expect("the width of the page", page.answer("document.documentElement.scrollWidth"), 400)
     page.resize(1400, 900)

@@ -49,7 +49,18 @@ def sessions() -> Iterator[bytes]:
             fail(f"keys.json has no {old!r}")
         yield keys.replace(old, new, 1).encode()
     yield from (keys[:at].encode() for at in range(0, len(keys), 23))
-    yield from (b"", b"{}", b"[]", b"1", b"{", b"\xff", b"\xef\xbb\xbf" + keys.encode(), STORED, keys.encode() + b" x", keys.encode() + b"\n\t ")
+    yield from (
+        b"",
+        b"{}",
+        b"[]",
+        b"1",
+        b"{",
+        b"\xff",
+        b"\xef\xbb\xbf" + keys.encode(),
+        STORED,
+        keys.encode() + b" x",
+        keys.encode() + b"\n\t ",
+    )
     for depth in (127, 128):
         yield b"[" * depth + b"]" * depth
     for number in NUMBERS:
@@ -57,7 +68,9 @@ def sessions() -> Iterator[bytes]:
     yield json.dumps(session([], [1, 2, 2])).encode()
     yield json.dumps(session([], [], [(5, "key", 1), (4, "key", 1)])).encode()
     yield json.dumps(session([], range(1, 4098))).encode()
-    yield json.dumps(session([], [10], [(1, "mouse", 0x073FF3FF), (1, "timer", 0xFFFFFFFF), (2, "switches", 4095), (3, "serial", 255)])).encode()
+    yield json.dumps(
+        session([], [10], [(1, "mouse", 0x073FF3FF), (1, "timer", 0xFFFFFFFF), (2, "switches", 4095), (3, "serial", 255)])
+    ).encode()
 
 
 # Changes of keys.json, each of which makes a session of it that is refused, or a different one.
@@ -72,7 +85,24 @@ BROKEN = (
     ("[10, ", "[1099511627776, "), ("[10, ", "[60, "), ('"inputs": [', '"inputs": [7, '), ('"inputs"', '"Inputs"'), ('"inputs": [', '"inputs": {'),
     ("{", "{,"), ("{", "{'a': 1,"), (":", " "), (",", ",,"), ('"format"', '"for\nmat"'), ('"format"', '"f\\ormat"'), ("[0, 0", "[00, 0"),
 )  # fmt: skip
-NUMBERS = ("-0", "+1", "1e3", "1.", ".5", "1e", "1e400", "-1e400", "0e400", "1E2", "18446744073709551615", "18446744073709551616", "0x10", "NaN", "true", "01")
+NUMBERS = (
+    "-0",
+    "+1",
+    "1e3",
+    "1.",
+    ".5",
+    "1e",
+    "1e400",
+    "-1e400",
+    "0e400",
+    "1E2",
+    "18446744073709551615",
+    "18446744073709551616",
+    "0x10",
+    "NaN",
+    "true",
+    "01",
+)
 
 
 def compare_module() -> None:
@@ -80,7 +110,9 @@ def compare_module() -> None:
     texts, notes = recordings(), list(sessions())
     found = answers(PAGE, [asked("check", text) for text in texts])
     for text, answer in zip(texts, found, strict=True):
-        expect(f"check of {text[:30]!r}", (answer.get("answer", answer)["line"], answer["answer"]["status"]), program("check", text))
+        expect(
+            f"check of {text[:30]!r}", (answer.get("answer", answer)["line"], answer["answer"]["status"]), program("check", text)
+        )
     refused = same = 0
     for note, made in zip(notes, answers(PAGE, [asked("record", note) for note in notes]), strict=True):
         ran = run([PROGRAM, "record"], note)
@@ -91,13 +123,16 @@ def compare_module() -> None:
     if not same:
         fail("no recording of the page is the program's byte for byte")
     recorded = len(notes) - refused
-    print(f"module: {len(texts)} recordings as the program says; {recorded} sessions are recorded as the program records them, {same} of them "
-          f"byte for byte; {refused} sessions are refused alike by the script")
+    print(
+        f"module: {len(texts)} recordings as the program says; {recorded} sessions are recorded as the program records them, {same} of them "
+        f"byte for byte; {refused} sessions are refused alike by the script"
+    )
 
 
 def compare_recording(note: bytes, made: bytes, wanted: bytes) -> bool:
     """A recording that the page makes while it runs is accepted, and has the program's claims, and its inputs but for those that come after
-    the last checkpoint; whether it is the same bytes, as it has to be where no input comes after, and the session names no page of zeros."""
+    the last checkpoint; whether it is the same bytes, as it has to be where no input comes after, and the session names no page of zeros.
+    """
     expect(f"the line of what the page records of {note[:60]!r}", program("check", made), program("check", wanted))
     own, other = galluspa.recording.read(made), galluspa.recording.read(wanted)
     last = other.checkpoints[-1].count
@@ -106,7 +141,9 @@ def compare_recording(note: bytes, made: bytes, wanted: bytes) -> bool:
     if len(own.events) == len(other.events) and not names_zeros:
         expect(f"the recording of {note[:60]!r}", made == wanted, True)
         return True
-    claims = [[replace(it, start=0, table=recording.memory(it, 0, 1 << 20)) for it in recording.checkpoints] for recording in (own, other)]
+    claims = [
+        [replace(it, start=0, table=recording.memory(it, 0, 1 << 20)) for it in recording.checkpoints] for recording in (own, other)
+    ]
     expect(f"the claims of {note[:60]!r}", *claims)
     return False
 
@@ -126,7 +163,9 @@ def compare_stretches() -> None:
     for (text, size), line in zip(sizes, lines, strict=True):
         expect(f"the line of {text[:30]!r} by stretches of {size} steps", (line["line"], line["status"]), program("check", text))
     false = sum(line["status"] for line in lines)
-    print(f"stretches: {sum(map(len, ends)) - len(ends)} cut as the tools cut them; {len(lines)} lines, {false} of them false, as the program says")
+    print(
+        f"stretches: {sum(map(len, ends)) - len(ends)} cut as the tools cut them; {len(lines)} lines, {false} of them false, as the program says"
+    )
 
 
 def compare_notation() -> None:

@@ -33,7 +33,9 @@ def show_name_plainly(desk: Desk) -> None:
         expect(f"the name in {place}", page.answer(shown(place))[: len(wanted)], wanted)
     desk.choose(f"{TURNING}.short.orsr", STORED[:-1])
     desk.expect_refused(f"{TURNED}.short.orsr", program("check", STORED[:-1])[0])
-    apart = "['name', 'judged', 'refused-name', 'claims-of'].map((it) => document.querySelectorAll(`bdi#g-${it}, #g-${it} bdi`).length)"
+    apart = (
+        "['name', 'judged', 'refused-name', 'claims-of'].map((it) => document.querySelectorAll(`bdi#g-${it}, #g-${it} bdi`).length)"
+    )
     expect("the elements that keep a name apart", page.answer(apart), [1] * 4)
     desk.choose(f"{TURNING}.bin", STORED[24:1048])
     page.wait("el('image').checkVisibility()")
@@ -50,7 +52,11 @@ def shorten_name(desk: Desk) -> None:
         desk.start(f"{name}.json", KEYS)
         right, whole = page.answer("[el('track').getBoundingClientRect().right, document.documentElement.scrollWidth]")
         expect(f"whether the timeline is in a window of {width} points", (right <= width, whole), (True, width))
-        expect("whether the name is shortened, and the whole one", page.answer("[el('name').scrollWidth > el('name').clientWidth, el('name').title]"), [True, name])
+        expect(
+            "whether the name is shortened, and the whole one",
+            page.answer("[el('name').scrollWidth > el('name').clientWidth, el('name').title]"),
+            [True, name],
+        )
     page.resize(1400, 900)
     print("names: one of two hundred characters is shortened at three widths, and whole where the mouse rests")
 

@@ -36,7 +36,11 @@ def show_me(desk: Desk) -> None:
     press_button(desk, "tab-log")
     press_button(desk, "show-false")
     page.wait("el('false-claim').querySelector('.both')?.checkVisibility()")
-    expect("both parts", page.answer("el('false-claim').querySelector('.both').textContent"), "R5: the machine has 00000001, the recording claims 00000009.")
+    expect(
+        "both parts",
+        page.answer("el('false-claim').querySelector('.both').textContent"),
+        "R5: the machine has 00000001, the recording claims 00000009.",
+    )
     desk.start("face.orsr", FACE)
     page.wait(JUDGED)
     expect("whether a true one has it", page.answer("el('show-false').checkVisibility()"), False)
@@ -78,12 +82,20 @@ def save_in_past(desk: Desk) -> None:
     third = page.answer("app.live.ask('inputNear', { at: nowCount(), isBefore: true })")
     look_at(desk, third)
     whole = galluspa.recording.read(desk.save("draw", "what is saved in the past"))
-    expect("what is said of it", page.answer(NOTICE), f'This is all of the recording, up to {end:,}. "Save up to the cursor" ends it at {third:,}.')
+    expect(
+        "what is said of it",
+        page.answer(NOTICE),
+        f'This is all of the recording, up to {end:,}. "Save up to the cursor" ends it at {third:,}.',
+    )
     expect("its keys and its end", [len(whole.events), whole.checkpoints[-1].count], [3, end])
     press_button(desk, "save-cursor")
     text = desk.saved("draw-live.orsr")
     part = galluspa.recording.read(text)
-    expect("the keys and the end of what is up to the cursor", [[chr(it.value) for it in part.events], part.checkpoints[-1].count], [["a", "b"], third])
+    expect(
+        "the keys and the end of what is up to the cursor",
+        [[chr(it.value) for it in part.events], part.checkpoints[-1].count],
+        [["a", "b"], third],
+    )
     expect("the program's line", program("check", text)[1], 0)
     print("saved: all of it, which is said, and what is up to the cursor")
 
@@ -145,9 +157,16 @@ def read_numbers(desk: Desk) -> None:
         page.wait(f"look.at === {count} && {EXACT}")
     pc = page.answer("field(look.moment.state, AT.PC)")
     expect("PC in both notations", page.answer("registerCells.get('PC').holder.textContent"), f"{4 * pc:04X} · {pc}")
-    for kind, text, wanted in (("COUNTER", f"0x{pc:X}", [pc, pc + 1]), ("COUNTER", f"{4 * pc:04X} · {pc}", [pc, pc + 1]), ("STORE", "EECC8", [0xEECC8, 0xEECC9]),
-                               ("STORE", f"· {0xEECC8 // 4}", [0xEECC8, 0xEECC9]), ("STORE", "0xEECC8-0xEECCB", [0xEECC8, 0xEECCC])):
-        page.answer(f"el('search-kind').value = {kind}; el('search-kind').dispatchEvent(new Event('change')); el('search-range').value = {json.dumps(text)}")
+    for kind, text, wanted in (
+        ("COUNTER", f"0x{pc:X}", [pc, pc + 1]),
+        ("COUNTER", f"{4 * pc:04X} · {pc}", [pc, pc + 1]),
+        ("STORE", "EECC8", [0xEECC8, 0xEECC9]),
+        ("STORE", f"· {0xEECC8 // 4}", [0xEECC8, 0xEECC9]),
+        ("STORE", "0xEECC8-0xEECCB", [0xEECC8, 0xEECCC]),
+    ):
+        page.answer(
+            f"el('search-kind').value = {kind}; el('search-kind').dispatchEvent(new Event('change')); el('search-range').value = {json.dumps(text)}"
+        )
         press_button(desk, "find-before")
         page.wait("!finding.isOn && finding.conditions")
         expect(f"what {text} is", page.answer("[finding.conditions[0].from, finding.conditions[0].end]"), wanted)
@@ -161,26 +180,36 @@ def say_words(desk: Desk) -> None:
     page.wait(JUDGED)
     expect("the headline", page.answer(HEADLINE), "4 checkpoints, 0.8 s of machine time: all true")
     expect("what is said of a replay", page.answer(shown("mode-text")), "Run plays the file. Take over to type.")
-    expect("the lanes", page.answer("[...el('names').children].map((it) => it.textContent).filter(Boolean)"),
-           ["checkpoints", "keyframes"])
+    expect(
+        "the lanes",
+        page.answer("[...el('names').children].map((it) => it.textContent).filter(Boolean)"),
+        ["checkpoints", "keyframes"],
+    )
     buttons = "['zoom-all', 'take-over', 'take-here', 'run-on', 'run-again'].map((it) => el(it).textContent)"
-    expect("the buttons", page.answer(buttons), ["Fit", "Take over", "Branch here", "Open as a new recording", "Verify from the start"])
+    expect(
+        "the buttons", page.answer(buttons), ["Fit", "Take over", "Branch here", "Open as a new recording", "Verify from the start"]
+    )
     nothing = encoded(2, [page_of(JUMP)], [claim(0)])
     desk.start("nothing.orsr", nothing)
     page.wait(JUDGED)
-    expect("a recording without checkpoints", page.answer(f"[{HEADLINE}, {LINE}, el('line').className]"),
-           ["Valid, claims nothing", "accepted 0 checkpoints 0 steps", "line note"])
+    expect(
+        "a recording without checkpoints",
+        page.answer(f"[{HEADLINE}, {LINE}, el('line').className]"),
+        ["Valid, claims nothing", "accepted 0 checkpoints 0 steps", "line note"],
+    )
     print("words: of lanes, buttons and verdicts; a recording that claims nothing is valid")
 
 
 def drop_files(desk: Desk) -> None:
     """Of two files that are dropped together the first one is opened, which is said; an empty file has nothing to open."""
     page, texts = desk.page, [(EXAMPLES / f"{name}.json").read_text() for name in ("keys", "lines")]
-    page.answer(f"""(() => {{
+    page.answer(
+        f"""(() => {{
       const data = new DataTransfer();
       {json.dumps(texts)}.forEach((text, at) => data.items.add(new File([text], `${{["first", "second"][at]}}.json`)));
       dispatchEvent(new DragEvent("drop", {{ dataTransfer: data, cancelable: true }}));
-    }})()""")
+    }})()"""
+    )
     desk.expect_notice("two files", r"Of 2 files that were dropped the first one is opened: first\.json\.")
     expect("what is open", page.answer(shown("name")), "first")
     desk.choose("empty.bin", b"")

@@ -84,8 +84,10 @@ def wait_for_storage(desk: Desk) -> None:
     page.wait("app.latest?.on && document.activeElement === el('screen')")
     page.press("a")
     page.wait(f"{SENT} === 'a'")
-    page.answer("window.confirm = () => true; window.notices = []; "
-                "new MutationObserver(() => notices.push(el('notice').textContent)).observe(el('notice'), { childList: true, characterData: true, subtree: true })")
+    page.answer(
+        "window.confirm = () => true; window.notices = []; "
+        "new MutationObserver(() => notices.push(el('notice').textContent)).observe(el('notice'), { childList: true, characterData: true, subtree: true })"
+    )
     press_button(desk, "face")
     page.wait("notices.includes('Waiting for the browser to keep the recording of draw ..')")
     expect("what is open meanwhile", page.answer(shown("name")), "draw")

@@ -86,7 +86,9 @@ def fill_pages(desk: Desk) -> None:
     tables = [{at: PAGES * number + at + 1 for at in range(PAGES)} for number in range(63)] + [{0: len(pool)}]
     text = encoded(2, pool, [claim(0), *(claim(10 * number, table) for number, table in enumerate(tables, 1))])
     page = desk.page
-    page.answer("window.opening = openRecording; openRecording = (name, bytes) => replaced(name, 'openRecording', { bytes, checkpoint: 64 })")
+    page.answer(
+        "window.opening = openRecording; openRecording = (name, bytes) => replaced(name, 'openRecording', { bytes, checkpoint: 64 })"
+    )
     desk.start("pages.orsr", text)
     page.answer("openRecording = opening")
     desk.click("run")
@@ -121,9 +123,13 @@ def keep_last_room(desk: Desk) -> None:
     page.answer("showClaim(4095).then(() => runOnFrom(4095))")
     page.wait("nowCount() === 40950")
     desk.go_on()
-    page.wait("nowCount() > 50000000 && el('status').textContent.includes('4,095 checkpoints, no more by time: the last is left for the end')")
+    page.wait(
+        "nowCount() > 50000000 && el('status').textContent.includes('4,095 checkpoints, no more by time: the last is left for the end')"
+    )
     desk.click("make-checkpoint")
-    desk.expect_notice("a checkpoint by hand", "No new checkpoint: the recording has room for one more checkpoint, which is left for its end.")
+    desk.expect_notice(
+        "a checkpoint by hand", "No new checkpoint: the recording has room for one more checkpoint, which is left for its end."
+    )
     desk.pause()
     count = page.answer("nowCount()")
     desk.save("many", "a recording with all checkpoints")
@@ -137,8 +143,10 @@ def end_at_last_count(desk: Desk) -> None:
     page, last = desk.page, 1 << 40
     page.answer("el('speed').value = 'fast'; el('each').value = 3600")
     never = "1 input of the file at this count will never come."
-    for word, told in ((JUMP, f"last FULL at {last:,}: no count comes after this one, so the machine does nothing more. {never}"),
-                       (STOP, f"last STOPPED at 0: a floating-point instruction. The machine does nothing more. {never}")):
+    for word, told in (
+        (JUMP, f"last FULL at {last:,}: no count comes after this one, so the machine does nothing more. {never}"),
+        (STOP, f"last STOPPED at 0: a floating-point instruction. The machine does nothing more. {never}"),
+    ):
         desk.start("last.orsr", encoded(2, [page_of(word)], [claim(0)], [Event(last, 4, 65)]))
         desk.click("run")
         page.wait(f"nowCount() === {last} && !app.latest.on", moving="nowCount()")
@@ -158,12 +166,18 @@ def leave_what_is_open(desk: Desk) -> None:
     desk.expect_line("the recording that is open", face)
     desk.click("take-over")
     desk.go_on()
-    for name, text, line in (("short.orsr", STORED[:-1], program("check", STORED[:-1])[0]), ("shape.json", b"{}", "session refused 2 shape")):
+    for name, text, line in (
+        ("short.orsr", STORED[:-1], program("check", STORED[:-1])[0]),
+        ("shape.json", b"{}", "session refused 2 shape"),
+    ):
         page.answer("clearRefusal()")
         desk.choose(name, text)
         desk.expect_refused(name, line)
-        expect("what is still open", page.answer(f"[{LINE}, app.latest.on, el('refused-how').textContent, el('claims').hidden]"),
-               [program("check", face)[0], True, "face is still open.", False])
+        expect(
+            "what is still open",
+            page.answer(f"[{LINE}, app.latest.on, el('refused-how').textContent, el('claims').hidden]"),
+            [program("check", face)[0], True, "face is still open.", False],
+        )
     desk.choose("image.bin", STORED[24:1048])
     page.wait("!el('image').hidden")
     desk.click("make-checkpoint")
@@ -171,7 +185,11 @@ def leave_what_is_open(desk: Desk) -> None:
     page.answer("el('image-registers').value = 'PC=5000000'; el('image').requestSubmit()")
     desk.expect_notice("a wrong register", "PC=5000000: .*")
     desk.click("image-cancel")
-    expect("the form when it is cancelled, and what is open", page.answer("[el('image').hidden, app.latest.on, app.work.name]"), [True, True, "face"])
+    expect(
+        "the form when it is cancelled, and what is open",
+        page.answer("[el('image').hidden, app.latest.on, app.work.name]"),
+        [True, True, "face"],
+    )
     desk.pause()
     desk.save("face", "what was open all the time")
     print("refused: two files and a memory image leave the machine, its name, its verdict and its checkpoints")
@@ -185,9 +203,19 @@ def judge_both(desk: Desk) -> None:
     desk.click("run")
     page.wait("!app.latest.isReplay && !app.latest.on")
     desk.save("false", "the replay of a false file")
-    names = page.answer("[el('judged').textContent, el('line').textContent, el('own-judged').textContent, el('own-line').textContent]")
-    expect("both verdicts", names, ["The file false.orsr", "false checkpoint 1 at 2 part R5", "The recording that you saved, false-live.orsr",
-                                    "accepted 2 checkpoints 4 steps"])
+    names = page.answer(
+        "[el('judged').textContent, el('line').textContent, el('own-judged').textContent, el('own-line').textContent]"
+    )
+    expect(
+        "both verdicts",
+        names,
+        [
+            "The file false.orsr",
+            "false checkpoint 1 at 2 part R5",
+            "The recording that you saved, false-live.orsr",
+            "accepted 2 checkpoints 4 steps",
+        ],
+    )
     print("verdicts: that of a false file and that of its saved replay each have a place and a name")
 
 
@@ -200,15 +228,20 @@ def end_at_once(desk: Desk) -> None:
     page.answer("el('speed').value = 'clock'")
     desk.click("run")
     page.wait("!app.latest.on && countOf(app.latest.state) === 2 ** 40")
-    expect("the checkpoints that it passed", page.answer("[...document.querySelectorAll('#g-passed li')].map((it) => it.textContent)"),
-           ["at 1: true", "at 1,099,511,627,776: true"])
+    expect(
+        "the checkpoints that it passed",
+        page.answer("[...document.querySelectorAll('#g-passed li')].map((it) => it.textContent)"),
+        ["at 1: true", "at 1,099,511,627,776: true"],
+    )
     never = bytearray(record(session([JUMP], [10000000, 20000000, 30000000])))
     struct.pack_into("<Q", never, len(never) - 144, 1 << 40)
     desk.open("never.orsr", bytes(never))
     page.wait("verdicts.file.work?.judged === 2 && verdicts.file.work.done > 25000000")
     desk.click("stop")
     expect("the line of a check that was stopped", page.answer(LINE), "stopped: no verdict")
-    if not re.fullmatch(r"Up to checkpoint 2 of 3 all are true; [\d,]+ of 1,099,511,627,776 steps were checked\.", page.answer(HOW)):
+    if not re.fullmatch(
+        r"Up to checkpoint 2 of 3 all are true; [\d,]+ of 1,099,511,627,776 steps were checked\.", page.answer(HOW)
+    ):
         fail(f"what it says it found: {page.answer(HOW)!r}")
     print("stopped: a machine that stopped is at 2^40 at once, checked and replayed; a check that was stopped says what it found")
 
@@ -219,18 +252,24 @@ def refuse_each(desk: Desk) -> None:
     desk.start("face.orsr", (EXAMPLES / "face.orsr").read_bytes())
     desk.expect_line("a file", (EXAMPLES / "face.orsr").read_bytes())
     asked = "Promise.allSettled([app.live.ask('claimed', { number: 99, of: app.work.generation }), app.live.ask('openSession', { bytes: new Uint8Array(2) })])"
-    expect("two refusals", page.answer(f"{asked}.then((all) => all.map((it) => it.reason.message))"), ["no checkpoint 99", "session refused 1 json"])
+    expect(
+        "two refusals",
+        page.answer(f"{asked}.then((all) => all.map((it) => it.reason.message))"),
+        ["no checkpoint 99", "session refused 1 json"],
+    )
     expect("the page's notice after them", page.answer(NOTICE), "")
     odd = bytearray((EXAMPLES / "face.orsr").read_bytes())
     struct.pack_into("<I", odd, 20, 1)
     desk.choose("odd.orsr", bytes(odd))
     desk.expect_refused("odd.orsr", program("check", bytes(odd))[0])
     before = page.answer("app.latest.memory")
-    page.answer("""(async () => {
+    page.answer(
+        """(async () => {
       const bytes = app.file.bytes.slice();
       bytes[20] = 1;
       for (let k = 0; k < 40; k++) await openBytes("odd.orsr", bytes);
-    })()""")
+    })()"""
+    )
     desk.click("step")
     page.wait("countOf(app.latest.state) === 1")
     if page.answer("app.latest.memory") > before + (1 << 20):
@@ -241,9 +280,20 @@ def refuse_each(desk: Desk) -> None:
     desk.expect_notice("a clerk that is broken", "the worker failed: Uncaught Error: broken")
     desk.click("step")
     page.wait("countOf(app.latest.state) === 2")
-    print("refusals: each request has its own; a worker that breaks is said to, and the machine goes on; refused recordings take no memory")
+    print(
+        "refusals: each request has its own; a worker that breaks is said to, and the machine goes on; refused recordings take no memory"
+    )
 
 
 TASKS = (
-    say_full, fill_inputs, fill_pages, go_on_full, keep_last_room, end_at_last_count, leave_what_is_open, judge_both, end_at_once, refuse_each,
+    say_full,
+    fill_inputs,
+    fill_pages,
+    go_on_full,
+    keep_last_room,
+    end_at_last_count,
+    leave_what_is_open,
+    judge_both,
+    end_at_once,
+    refuse_each,
 )

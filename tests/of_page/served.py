@@ -37,7 +37,10 @@ def drive(folder: Path) -> None:
         page.wait("document.getElementById('g-run').textContent === 'Pause' && document.activeElement.id === 'g-screen'")
         page.press("a")
         page.wait(f"{SENT} === 'a'")
-        for name, old, new in (("page.html", "<h1>Galluspa</h1>", "<h1>Another</h1>"), ("elements.js", '`${grouped(number)} ${what}', '`${grouped(number)} other ${what}')):
+        for name, old, new in (
+            ("page.html", "<h1>Galluspa</h1>", "<h1>Another</h1>"),
+            ("elements.js", "`${grouped(number)} ${what}", "`${grouped(number)} other ${what}"),
+        ):
             text = (folder / "web" / name).read_text()
             expect(f"{old} in {name}", text.count(old), 1)
             (folder / "web" / name).write_text(text.replace(old, new))

@@ -27,7 +27,9 @@ def press_button(desk: Desk, name: str) -> None:
     # What is above it may have grown in the frame before.
     page.answer("new Promise((done) => requestAnimationFrame(() => requestAnimationFrame(() => done())))")
     page.answer(f"{found}.scrollIntoView({{ block: 'nearest' }})")
-    x, y = page.answer(f"(({{ left, top, width, height }}) => [left + width / 2, top + height / 2])({found}.getBoundingClientRect())")
+    x, y = page.answer(
+        f"(({{ left, top, width, height }}) => [left + width / 2, top + height / 2])({found}.getBoundingClientRect())"
+    )
     for kind in ("mouseMoved", "mousePressed", "mouseReleased"):
         page.point(kind, x, y, int(kind == "mousePressed"))
 
@@ -50,7 +52,11 @@ def find_stop(desk: Desk) -> None:
     press_button(desk, "run")
     page.wait(f"{COUNT}.startsWith('262,144 · ')")
     page.wait(f"{TRACE}.includes('262,143')")
-    expect("what is said of it", page.answer(MODE), "image STOPPED at 262,144: PC left memory. The instruction at the cursor is the last one.")
+    expect(
+        "what is said of it",
+        page.answer(MODE),
+        "image STOPPED at 262,144: PC left memory. The instruction at the cursor is the last one.",
+    )
     expect("whether it is said that there is no code", page.answer("el('no-code').checkVisibility()"), True)
     rows = page.answer("[...el('trace').children].map((it) => it.textContent.split(/ +/).slice(0, 3).join(' ').trim())")
     expect("the last instructions", rows[-2:], ["262,143 262143 MOV", "262,144 262144 outside"])
@@ -74,7 +80,11 @@ def find_other_stops(desk: Desk) -> None:
     for _ in range(2):
         press_button(desk, "step")
     page.wait(f"{WORD} === 'STOPPED' && {COUNT}.startsWith('1 · ')")
-    expect("why", page.answer(MODE), "divide STOPPED at 1: a division by a divisor below 1. The instruction at the cursor is the last one.")
+    expect(
+        "why",
+        page.answer(MODE),
+        "divide STOPPED at 1: a division by a divisor below 1. The instruction at the cursor is the last one.",
+    )
     press_button(desk, "back-now")
     page.wait("!isPast()")
     page.answer("registerCells.get('stop').holder.focus()")
@@ -123,8 +133,16 @@ def compare_output(desk: Desk) -> None:
     page = desk.page
     text = record({**json.loads((EXAMPLES / "keys.json").read_text()), "checkpoints": [51]})
     own = text[-2:]
-    for claimed, said in ((own[:1] + b"Z", f"byte 2 sent after checkpoint 0: the machine has {own[1]:02X} ({own[1:].decode()}) of 2, the recording claims 5A (Z) of 2."),
-                          (own[:1], f"byte 2 sent after checkpoint 0: the machine has {own[1]:02X} ({own[1:].decode()}) of 2, the recording claims no more of 1.")):
+    for claimed, said in (
+        (
+            own[:1] + b"Z",
+            f"byte 2 sent after checkpoint 0: the machine has {own[1]:02X} ({own[1:].decode()}) of 2, the recording claims 5A (Z) of 2.",
+        ),
+        (
+            own[:1],
+            f"byte 2 sent after checkpoint 0: the machine has {own[1]:02X} ({own[1:].decode()}) of 2, the recording claims no more of 1.",
+        ),
+    ):
         false = bytearray(text[: -len(own)] + claimed)
         changes = next(n for n in range(1025) if struct.unpack_from("<I", text, len(text) - 2 - 144 - 8 * n + 140)[0] == n)
         at = len(text) - 2 - 144 - 8 * changes
@@ -153,13 +171,15 @@ def count_dots_eaten(desk: Desk) -> None:
     page = desk.page
     desk.reload()
     # The machine is run a moment after it is opened, as on a computer that has much to do.
-    page.answer("""(() => {
+    page.answer(
+        """(() => {
       const ask = app.live.ask.bind(app.live);
       app.live.ask = async (name, given) => {
         if (name === "setRun") await new Promise((done) => setTimeout(done, 200));
         return ask(name, given);
       };
-    })()""")
+    })()"""
+    )
     press_button(desk, "play")
     page.wait("app.latest?.on && nowCount() > 8000000 && field(app.latest.state, AT.LEDs) === 3")
     press_button(desk, "run")
@@ -216,4 +236,12 @@ def show_lanes_of_recording(desk: Desk) -> None:
     print(f"lanes: {len(wanted[0])} entries of the screen and {len(wanted[1])} of sent bytes, however the recording is watched")
 
 
-TASKS = (find_stop, find_other_stops, show_lanes_of_recording, forget_what_was_said, compare_output, end_at_last_count, count_dots_eaten)
+TASKS = (
+    find_stop,
+    find_other_stops,
+    show_lanes_of_recording,
+    forget_what_was_said,
+    compare_output,
+    end_at_last_count,
+    count_dots_eaten,
+)

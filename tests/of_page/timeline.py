@@ -58,7 +58,9 @@ def drag(desk: Desk) -> None:
     page.wait(f"{WORDS}.startsWith('count 20,000,000, 0.800 seconds, now')")
     left, top, width = page.answer("(({ left, top, width }) => [left, top, width])(el('track').getBoundingClientRect())")
     at = lambda share: (left + width * share, top + 60, time.time())
-    page.answer(f"window.said = new Set(); new MutationObserver(() => said.add({WORDS})).observe(el('cursor'), {{ attributes: true }})")
+    page.answer(
+        f"window.said = new Set(); new MutationObserver(() => said.add({WORDS})).observe(el('cursor'), {{ attributes: true }})"
+    )
     page.send_mouse("mousePressed", *at(0.95), 1)
     for step in range(60):
         page.send_mouse("mouseMoved", *at(0.95 - step * 0.01), 1)
@@ -77,7 +79,11 @@ def drag(desk: Desk) -> None:
     desk.click("run-again")
     page.wait(f"{shown('run-again-said')} === 'The same.'")
     lists = page.answer("[...el('lists').children].map((it) => it.getAttribute('aria-label').split(':')[0])")
-    expect("the lists of the lanes", lists, [f"Lane {name}" for name in ("checkpoints", "keys", "mouse", "serial", "screen", "hits", "keyframes")])
+    expect(
+        "the lists of the lanes",
+        lists,
+        [f"Lane {name}" for name in ("checkpoints", "keys", "mouse", "serial", "screen", "hits", "keyframes")],
+    )
     claims = page.answer("[...el('lists').firstChild.children].map((it) => it.textContent)")
     expect("the list of the checkpoints", claims, [f"true at {count:,}" for count in (4000000, 8000000, 12000000, 20000000)])
     desk.click("back-now")
@@ -88,7 +94,9 @@ def drag(desk: Desk) -> None:
     expect("the dots of a machine that is opened in the past of another", any(page_dots(desk)), False)
     expect("what the timeline says of its screen", page.answer("lanes.cells.filter(({ lines }) => lines)"), [])
     run_to_end(desk, "face.orsr", FACE)
-    print("cursor: dragged by the mouse, its words once it has settled, three pictures of the past as the program draws them, and back to now")
+    print(
+        "cursor: dragged by the mouse, its words once it has settled, three pictures of the past as the program draws them, and back to now"
+    )
 
 
 def press_each(desk: Desk) -> None:
@@ -96,8 +104,18 @@ def press_each(desk: Desk) -> None:
     page = desk.page
     run_to_end(desk, "face.orsr", FACE)
     look_at(desk, 8000000)
-    for key, modifiers, count in (("ArrowLeft", 0, 7999999), ("ArrowRight", 0, 8000000), ("[", 0, 4000000), ("]", 0, 8000000), ("Home", 0, 0),
-                                  ("]", 0, 4000000), (",", 0, 0), ("End", 0, 20000000), ("[", 0, 12000000), (".", 0, 20000000)):
+    for key, modifiers, count in (
+        ("ArrowLeft", 0, 7999999),
+        ("ArrowRight", 0, 8000000),
+        ("[", 0, 4000000),
+        ("]", 0, 8000000),
+        ("Home", 0, 0),
+        ("]", 0, 4000000),
+        (",", 0, 0),
+        ("End", 0, 20000000),
+        ("[", 0, 12000000),
+        (".", 0, 20000000),
+    ):
         page.press(key, modifiers=modifiers)
         page.wait(f"shownCount() === {count} && (!isPast() || {EXACT})")
     for key, sign in (("PageUp", "<"), ("PageDown", ">"), ("+", "<"), ("-", ">")):
@@ -155,10 +173,20 @@ def ask_who(desk: Desk) -> None:
     click_dot(desk, left + (600.5 / 1024) * width, top + ((767 - 219 + 0.5) / 768) * width * 0.75)
     page.wait(f"{CARD}.includes(': sure')")
     found = page.answer("[...el('card').querySelectorAll('h2, p')].map((it) => it.textContent)")
-    expect("who drew the dot", found, ["Who drew the dot 600,219", "Instruction 4,838,732, PC 41: sure", "STR R6, R13, 0  Mem[R13] := R6"])
+    expect(
+        "who drew the dot",
+        found,
+        ["Who drew the dot 600,219", "Instruction 4,838,732, PC 41: sure", "STR R6, R13, 0  Mem[R13] := R6"],
+    )
     stale = "{ request: asking.request - 1, at: 1, pc: 1, word: 0, state: app.latest.state, sure: false }"
-    page.answer(f"window.jump = [...el('card').querySelectorAll('button')].find((it) => it.textContent === 'Jump'); heardPast({{ who: {stale} }})")
-    expect("the card after an answer to another question", page.answer(f"[{CARD}.includes('4,838,732'), jump.isConnected]"), [True, True])
+    page.answer(
+        f"window.jump = [...el('card').querySelectorAll('button')].find((it) => it.textContent === 'Jump'); heardPast({{ who: {stale} }})"
+    )
+    expect(
+        "the card after an answer to another question",
+        page.answer(f"[{CARD}.includes('4,838,732'), jump.isConnected]"),
+        [True, True],
+    )
     page.answer("heardPast({ who: { request: asking.request, at: 4838732, pc: 41, sure: false } })")
     expect("the card after a less sure answer", page.answer(f"[{CARD}.includes('probably'), jump.isConnected]"), [True, True])
     page.answer("jump.click()")
@@ -178,11 +206,20 @@ def ask_devices(desk: Desk) -> None:
     """A click on the LEDs, and on the keys, has the instruction that wrote or took them last; on the mouse, the input. A machine that runs is
     paused first."""
     page = desk.page
-    keys = json.dumps({**json.loads((EXAMPLES / "draw.json").read_text()), "inputs": [[100000, "mouse", 77], [200000, "key", 33]], "checkpoints": [300000]})
+    keys = json.dumps(
+        {
+            **json.loads((EXAMPLES / "draw.json").read_text()),
+            "inputs": [[100000, "mouse", 77], [200000, "key", 33]],
+            "checkpoints": [300000],
+        }
+    )
     run_to_end(desk, "devices.json", keys.encode())
-    for name, said in (("LEDs", r"Who wrote LEDs×Instruction [\d,]+, PC \d+: sureST.*"), ("keys", r"Who wrote keys×Instruction [\d,]+, PC \d+: sureLD.*"),
-                       ("mouse", r"Who wrote mouse×The input mouse 4D before instruction 100,000: sureJumpEarlier"),
-                       ("switches", r"Who wrote switches×No instruction: it is as in the initial state\.")):
+    for name, said in (
+        ("LEDs", r"Who wrote LEDs×Instruction [\d,]+, PC \d+: sureST.*"),
+        ("keys", r"Who wrote keys×Instruction [\d,]+, PC \d+: sureLD.*"),
+        ("mouse", r"Who wrote mouse×The input mouse 4D before instruction 100,000: sureJumpEarlier"),
+        ("switches", r"Who wrote switches×No instruction: it is as in the initial state\."),
+    ):
         page.answer(f"registerCells.get('{name}').holder.click()")
         page.wait(f"{CARD}.includes('Who wrote {name}') && !{CARD}.includes('search')")
         if not re.fullmatch(said, page.answer(CARD)):
@@ -213,17 +250,25 @@ def search(desk: Desk) -> None:
     desk.click("find-before")
     page.wait(f"isPast() && {EXACT}")
     last = page.answer("look.at")
-    expect("the byte that is sent there", page.answer("look.moment.sent + 1"), page.answer(f"app.past.moment({end}).then((it) => it.sent)"))
+    expect(
+        "the byte that is sent there",
+        page.answer("look.moment.sent + 1"),
+        page.answer(f"app.past.moment({end}).then((it) => it.sent)"),
+    )
     desk.click("find-next")
     page.wait(f"{shown('found')} === 'There is none after it, up to now.'")
     expect("where it stays", page.answer("look.at"), last)
     look_at(desk, 0)
-    page.answer("el('search-kind').value = COUNTER; el('search-kind').dispatchEvent(new Event('change')); el('search-range').value = '0'")
+    page.answer(
+        "el('search-kind').value = COUNTER; el('search-kind').dispatchEvent(new Event('change')); el('search-range').value = '0'"
+    )
     desk.click("find-next")
     page.wait(f"{shown('found')} === 'PC 0 at 0'")
     desk.click("find-next")
     page.wait(f"{shown('found')} === 'There is none after it, up to now.'")
-    page.answer("el('search-kind').value = STORE; el('search-kind').dispatchEvent(new Event('change')); el('search-range').value = 'xyz'")
+    page.answer(
+        "el('search-kind').value = STORE; el('search-kind').dispatchEvent(new Event('change')); el('search-range').value = 'xyz'"
+    )
     desk.click("find-before")
     desk.expect_notice("no address", "xyz: an address is hexadecimal, ·32 for the word 32, or two as in E8000-E8003.")
     run_to_end(desk, "face.orsr", FACE)
@@ -276,8 +321,11 @@ def look_ahead(desk: Desk) -> None:
     desk.start("face.orsr", FACE)
     page.wait(f"{JUDGED} && timeline.to === 20000000 && lanes.end === 20000000")
     look_at(desk, 8000000)
-    expect("what is said of it", page.answer(f"[{WORD}, {shown('mode-text')}]"),
-           ["REPLAY", "0.3 s ahead of the replay, as the file claims, which was checked. Keys do nothing."])
+    expect(
+        "what is said of it",
+        page.answer(f"[{WORD}, {shown('mode-text')}]"),
+        ["REPLAY", "0.3 s ahead of the replay, as the file claims, which was checked. Keys do nothing."],
+    )
     expect("the picture that is claimed", page_dots(desk) == program_dots(FACE, 2), True)
     expect("what one may do", page.answer(f"[el('take-here').hidden, {shown('run')}]"), [True, "Run to here"])
     desk.click("run")
@@ -325,7 +373,11 @@ def meet_each(desk: Desk) -> None:
         page.wait(f"nowCount() > {counts[-1] if counts else 6} && {MET} === `PC 13 at ${{grouped(nowCount())}}`")
         counts.append(page.answer("nowCount()"))
     first = "app.past.find({{ from: {}, to: nowCount() + 1, conditions: conditionsOfBreaks() }}).then((it) => it.at)"
-    expect("where the machine is paused each time", counts, [page.answer(first.format(at)) for at in (6, *(it + 1 for it in counts[:-1]))])
+    expect(
+        "where the machine is paused each time",
+        counts,
+        [page.answer(first.format(at)) for at in (6, *(it + 1 for it in counts[:-1]))],
+    )
     page.answer("toggleBreak(13); select(0xEECC8, 0xEECC9); watchSelected()")
     desk.click("run")
     page.wait(f"{MET} === 'a change of EECC8 to EECC9 at 4,838,732'")
@@ -343,7 +395,11 @@ def show_false(desk: Desk) -> None:
     expect("the headline", page.answer("el('false-claim').querySelector('b').textContent"), "False at checkpoint 1: R5")
     page.answer("el('false-claim').querySelector('button').click()")
     page.wait("nowCount() === 2 && el('false-claim').querySelector('.both')")
-    expect("both parts", page.answer("el('false-claim').querySelector('.both').textContent"), "R5: the machine has 00000001, the recording claims 00000009.")
+    expect(
+        "both parts",
+        page.answer("el('false-claim').querySelector('.both').textContent"),
+        "R5: the machine has 00000001, the recording claims 00000009.",
+    )
     page.answer("el('false-claim').querySelector('button').click()")
     page.wait(f"{CARD}.includes('Who wrote R5') && {CARD}.includes(': sure')")
     memory = encoded(2, [page_of(JUMP), page_of(0, 7)], [claim(0), claim(10, {0: 1, 3: 2})])
@@ -422,7 +478,9 @@ def ask_before_dropping(desk: Desk) -> None:
     expect("the branches while it is asked", page.answer("[branches.made, look.at]"), [9, 0])
     desk.click("take-here")
     page.wait("branches.made === 10")
-    expect("the branches", page.answer("branches.list.map(({ branch }) => branch)"), [f"branch {number}" for number in range(2, 10)])
+    expect(
+        "the branches", page.answer("branches.list.map(({ branch }) => branch)"), [f"branch {number}" for number in range(2, 10)]
+    )
     print("branches: eight at most; before the ninth, the user is asked")
 
 
@@ -439,7 +497,11 @@ def look_narrow(desk: Desk) -> None:
         pictures.append(page.answer("el('lanes').toDataURL()"))
     expect("whether the lanes are the same, light and dark", pictures[0] == pictures[1], False)
     buttons = "[...document.querySelectorAll('#galluspa .keys button')].filter((it) => it.checkVisibility())"
-    expect("the buttons of the transport", page.answer(f"{buttons}.map((it) => it.id)"), ["g-back-run", "g-back", "g-run", "g-step", "g-now"])
+    expect(
+        "the buttons of the transport",
+        page.answer(f"{buttons}.map((it) => it.id)"),
+        ["g-back-run", "g-back", "g-run", "g-step", "g-now"],
+    )
     expect("the width of the page", page.answer("document.documentElement.scrollWidth"), 400)
     expect("the height of the lanes", page.answer("el('lanes').offsetHeight < 60"), True)
     for place in (0, 700, 1200):
@@ -464,5 +526,16 @@ def meet_breakpoints(desk: Desk) -> None:
 
 
 TASKS = (
-    drag, press_each, ask_who, ask_devices, search, stop_search, look_ahead, meet_breakpoints, show_false, branch, ask_before_dropping, look_narrow,
+    drag,
+    press_each,
+    ask_who,
+    ask_devices,
+    search,
+    stop_search,
+    look_ahead,
+    meet_breakpoints,
+    show_false,
+    branch,
+    ask_before_dropping,
+    look_narrow,
 )

@@ -7,7 +7,9 @@ from of_page.timeline import CARD, EXACT, FACE, WORD, run_to_end
 def middle(desk: Desk, element: str) -> tuple[float, float]:
     """The middle of an element, once it is where it stays."""
     desk.page.answer("new Promise((done) => requestAnimationFrame(() => requestAnimationFrame(() => done())))")
-    x, y = desk.page.answer(f"(({{ left, top, width, height }}) => [left + width / 2, top + height / 2])(({element}).getBoundingClientRect())")
+    x, y = desk.page.answer(
+        f"(({{ left, top, width, height }}) => [left + width / 2, top + height / 2])(({element}).getBoundingClientRect())"
+    )
     return x, y
 
 
@@ -22,7 +24,9 @@ def tap_cards(desk: Desk) -> None:
     for key in "dw":
         page.tap(*middle(desk, f"el('pad').querySelector('[data-key={key}]')"))
     page.wait("app.latest.inputs === 2")
-    kinds = page.answer("app.live.ask('lanes', { from: 0, to: nowCount() + 1, columns: 9, of: app.work.generation }).then((it) => it.keys.map(([, code]) => code))")
+    kinds = page.answer(
+        "app.live.ask('lanes', { from: 0, to: nowCount() + 1, columns: 9, of: app.work.generation }).then((it) => it.keys.map(([, code]) => code))"
+    )
     expect("the keys of two taps", kinds, [ord("d"), ord("w")])
     desk.pause()
     print("touch: Snake is begun by its card, and turned by its buttons")

@@ -10,7 +10,19 @@ from dataclasses import replace
 import galluspa.recording
 from galluspa import states
 from of_page.desk import (
-    CTRL, DRAWN, HOW, JUDGED, LINE, OWN_JUDGED, OWN_LINE, SENT, SHIFT, Desk, expect, fail, program,
+    CTRL,
+    DRAWN,
+    HOW,
+    JUDGED,
+    LINE,
+    OWN_JUDGED,
+    OWN_LINE,
+    SENT,
+    SHIFT,
+    Desk,
+    expect,
+    fail,
+    program,
 )
 from of_tools.samples import EXAMPLES, PROGRAM, STORED, group, record, rejoining, run, session
 
@@ -38,8 +50,10 @@ def open_recordings(desk: Desk) -> None:
     for number, (now, before) in enumerate(zip(claims, [None, *claims])):
         desk.page.answer(f"showClaim({number})")
         parts = [*states.registers(now, before), *states.others(now, before, 2)]
-        found = desk.page.answer("[...document.querySelectorAll('#g-claim dd')].map((it) => [it.previousSibling.textContent, it.textContent, "
-                                 "it.classList.contains('changed')])")
+        found = desk.page.answer(
+            "[...document.querySelectorAll('#g-claim dd')].map((it) => [it.previousSibling.textContent, it.textContent, "
+            "it.classList.contains('changed')])"
+        )
         expect(f"the parts at checkpoint {number}", found, [[part.name, part.text, part.is_changed] for part in parts])
     false = rejoining(9)
     desk.drop("false.orsr", false)
@@ -56,11 +70,17 @@ def check_long(desk: Desk) -> None:
     page = desk.page
     counts = [10000000, 20000000, 100000000]
     long = record(json.dumps({**json.loads((EXAMPLES / "face.json").read_text()), "checkpoints": counts}).encode())
-    page.answer("window.heardOfFile = verdicts.file.heard; verdicts.file.heard = function (work, news) {"
-                " heardOfFile.call(this, work, news); if (news.stretches) { lines.push(el('line').textContent); window.onJoined?.(); } }")
+    page.answer(
+        "window.heardOfFile = verdicts.file.heard; verdicts.file.heard = function (work, news) {"
+        " heardOfFile.call(this, work, news); if (news.stretches) { lines.push(el('line').textContent); window.onJoined?.(); } }"
+    )
     read = galluspa.recording.read(long)
-    false = [galluspa.recording.write(replace(read, checkpoints=[replace(it, h=1) if at == wrong else it for at, it in enumerate(read.checkpoints)]))
-             for wrong in (1, 3)]
+    false = [
+        galluspa.recording.write(
+            replace(read, checkpoints=[replace(it, h=1) if at == wrong else it for at, it in enumerate(read.checkpoints)])
+        )
+        for wrong in (1, 3)
+    ]
     for text in (*false, long):
         page.answer("window.lines = []")
         desk.open("long.orsr", text)
@@ -71,7 +91,9 @@ def check_long(desk: Desk) -> None:
     desk.open("stopped.orsr", long)
     page.wait(f"{HOW}.includes('stopped')")
     expect("the line when stopped", page.answer(LINE), program("check", long)[0])
-    joined = "The proved check of \\d+ stretches gave this line, put together by this page's script. The check of the whole was stopped."
+    joined = (
+        "The proved check of \\d+ stretches gave this line, put together by this page's script. The check of the whole was stopped."
+    )
     if not re.fullmatch(joined, page.answer(HOW)):
         fail(f"how it came: {page.answer(HOW)!r}")
     page.answer("verdicts.file.heard = heardOfFile; window.onJoined = null")
@@ -112,7 +134,9 @@ def open_hostile(desk: Desk) -> None:
     expect("a check that was stopped", desk.page.answer(LINE), "stopped: no verdict")
     if not re.fullmatch(r"No checkpoint was judged; [\d,]+ of 1,099,511,627,776 steps were checked\.", desk.page.answer(HOW)):
         fail(f"what is known when the check is stopped: {desk.page.answer(HOW)!r}")
-    print("hostile files: 8 are refused by name; a memory image starts; a file is chosen again during its check; a check without end is stopped")
+    print(
+        "hostile files: 8 are refused by name; a memory image starts; a file is chosen again during its check; a check without end is stopped"
+    )
 
 
 def draw(desk: Desk) -> tuple[bytes, bytes]:
@@ -150,7 +174,9 @@ def draw(desk: Desk) -> tuple[bytes, bytes]:
     desk.click("save-session")
     note = desk.saved("draw-live.json")
     expect("the recording that the program makes of the session", run([PROGRAM, "record"], note).output, recording)
-    print(f"drawing: {page.answer(DRAWN)} dots by the mouse, keys and serial bytes answered; {page.answer(OWN_LINE)}, also by the program")
+    print(
+        f"drawing: {page.answer(DRAWN)} dots by the mouse, keys and serial bytes answered; {page.answer(OWN_LINE)}, also by the program"
+    )
     return note, recording
 
 
@@ -166,13 +192,21 @@ def replay(desk: Desk, note: bytes, recording: bytes) -> None:
     checkpoints = int(group(r"accepted (\d+)", page.answer(LINE)))
     passed = page.answer("[...document.querySelectorAll('#g-passed li')].map((it) => it.textContent)")
     expect("the checkpoints that were passed as true", [it.endswith(": true") for it in passed], [True] * checkpoints)
-    expect("the count at the end of the replay", page.answer("countOf(app.latest.state)"), galluspa.recording.read(recording).checkpoints[-1].count)
+    expect(
+        "the count at the end of the replay",
+        page.answer("countOf(app.latest.state)"),
+        galluspa.recording.read(recording).checkpoints[-1].count,
+    )
     expect("the dots after the replay", page.answer(DRAWN), dots)
     desk.open("false.orsr", rejoining(9))
     page.wait("!el('claims').hidden && app.latest")
     desk.click("next")
     page.wait("document.querySelector('#g-passed li')")
-    expect("a false checkpoint on the way", page.answer("document.querySelector('#g-passed li').textContent"), "at 2: false, first in R5")
+    expect(
+        "a false checkpoint on the way",
+        page.answer("document.querySelector('#g-passed li').textContent"),
+        "at 2: false, first in R5",
+    )
     desk.open("again.json", note)
     page.wait("app.latest?.isReplay")
     desk.click("take-over")
@@ -214,22 +248,32 @@ def take_up_old(desk: Desk) -> None:
         content = bytes.fromhex(it["hex"])
         words[1024 * it["at"] : 1024 * it["at"] + len(content)] = content
     fields = (start["H"], start["PC"], start["flags"], 0, 0, start.get("rate", 0), start.get("phase", 0))
-    parts = {"state": struct.pack("<Q16I7I36x", 0, *start["R"], *fields), "words": bytes(words), "inputs": struct.pack("<QII", 1000000, 4, ord("k"))}
+    parts = {
+        "state": struct.pack("<Q16I7I36x", 0, *start["R"], *fields),
+        "words": bytes(words),
+        "inputs": struct.pack("<QII", 1000000, 4, ord("k")),
+    }
     coded = json.dumps({name: base64.b64encode(content).decode() for name, content in parts.items()})
-    page.answer(f"""(() => {{
+    page.answer(
+        f"""(() => {{
       const [state, words, inputs] = Object.values({coded}).map((text) => Uint8Array.from(atob(text), (it) => it.charCodeAt(0)));
       const kept = {{ first: {{ state, words }}, live: {{ state, words }}, inputs, marks: [1500000], count: 3000000 }};
       return withKept("readwrite", (store) => store.put({{ id: Date.now(), name: "old", sent: "k", ...kept }}));
-    }})()""")
+    }})()"""
+    )
     desk.reload()
     page.wait("el('kept-list').firstChild")
-    page.answer("[...document.querySelectorAll('#g-kept p')].find((it) => it.textContent.startsWith('old,')).nextElementSibling.click()")
+    page.answer(
+        "[...document.querySelectorAll('#g-kept p')].find((it) => it.textContent.startsWith('old,')).nextElementSibling.click()"
+    )
     page.wait("app.latest?.isReplay && !el('run').disabled")
     desk.click("run")
     page.wait("!app.latest.isReplay && !app.latest.on")
     recording = desk.save("old", "the line of what an earlier page kept")
     read = galluspa.recording.read(recording)
-    expect("its checkpoints and its output", ([it.count for it in read.checkpoints[1:3]], recording[-1:]), ([1500000, 3000000], b"k"))
+    expect(
+        "its checkpoints and its output", ([it.count for it in read.checkpoints[1:3]], recording[-1:]), ([1500000, 3000000], b"k")
+    )
     print("kept before: a session that an earlier page kept was played back, recorded and accepted")
 
 
@@ -258,7 +302,9 @@ def walk(desk: Desk) -> None:
     look_by_keys(desk)
     run_by_keys(desk)
     save_by_keys(desk)
-    print(f"keyboard: {number} controls are reached, named and shown; opened, run, paused, stepped, saved, recorded and checked by keys alone")
+    print(
+        f"keyboard: {number} controls are reached, named and shown; opened, run, paused, stepped, saved, recorded and checked by keys alone"
+    )
 
 
 def look_by_keys(desk: Desk) -> None:
@@ -338,7 +384,9 @@ def record_devices(desk: Desk) -> None:
     desk.click("run")
     page.wait("app.latest.on && countOf(app.latest.state) > 1000000")
     desk.click("save-session")
-    desk.expect_notice("a session with devices", "the initial state has timer other than 0, which a session cannot say: save the recording")
+    desk.expect_notice(
+        "a session with devices", "the initial state has timer other than 0, which a session cannot say: save the recording"
+    )
     recording = desk.save("late", "the recording that begins with devices")
     expect("its first timer", galluspa.recording.read(recording).checkpoints[0].timer, 7)
     print("devices: a machine whose timer isn't 0 at first was recorded and accepted; its session is refused")
@@ -373,7 +421,9 @@ def look_narrow(desk: Desk) -> None:
     desk.page.answer("clearRefusal = () => {}")
     desk.choose("image.bin", STORED[24:1048])
     desk.page.wait("!el('image').hidden")
-    desk.page.answer("el('kept').open = true; notice('This recording is open in another page: what you do here is kept as a copy.')")
+    desk.page.answer(
+        "el('kept').open = true; notice('This recording is open in another page: what you do here is kept as a copy.')"
+    )
     for width in (400, 800, 1400):
         desk.page.resize(width, 900)
         expect(f"the layout at {width} points", desk.page.answer(FAULTS), [])
@@ -413,9 +463,13 @@ def run_long(desk: Desk) -> None:
     page.answer("app.live.ask('recording').then(({ bytes }) => { window.recorded = bytes.length; })")
     memory, marks, length = page.answer("[app.latest.memory, app.latest.marks, recorded]")
     if memory > after[0] + (512 << 10) + (64 << 10) * marks + 16 * length:
-        fail(f"the module's memory grew from {after[0]:,} to {memory:,} bytes with a recording of {marks} checkpoints and {length:,} bytes")
-    print(f"memory: {after[0] >> 20} MiB after a thousand frames as after 100, at {rate / 1e6:.0f} million instructions a second; "
-          f"{(memory - after[0]) >> 10} KiB more with {marks} checkpoints")
+        fail(
+            f"the module's memory grew from {after[0]:,} to {memory:,} bytes with a recording of {marks} checkpoints and {length:,} bytes"
+        )
+    print(
+        f"memory: {after[0] >> 20} MiB after a thousand frames as after 100, at {rate / 1e6:.0f} million instructions a second; "
+        f"{(memory - after[0]) >> 10} KiB more with {marks} checkpoints"
+    )
 
 
 def draw_and_replay(desk: Desk) -> None:
@@ -424,5 +478,14 @@ def draw_and_replay(desk: Desk) -> None:
 
 
 TASKS = (
-    open_recordings, check_long, open_hostile, draw_and_replay, step, record_devices, survive_reload, take_up_old, walk, look_narrow,
+    open_recordings,
+    check_long,
+    open_hostile,
+    draw_and_replay,
+    step,
+    record_devices,
+    survive_reload,
+    take_up_old,
+    walk,
+    look_narrow,
 )

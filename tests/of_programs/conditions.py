@@ -8,7 +8,15 @@ from of_programs.rows import Row
 
 MASK = 0xFFFFFFFF
 OPERANDS = (
-    (0, 0), (0, 1), (1, 0), (5, 5), (0x80000000, 1), (0x7FFFFFFF, MASK), (0x7FFFFFFF, 1), (0x80000000, 0x80000000), (MASK, MASK),
+    (0, 0),
+    (0, 1),
+    (1, 0),
+    (5, 5),
+    (0x80000000, 1),
+    (0x7FFFFFFF, MASK),
+    (0x7FFFFFFF, 1),
+    (0x80000000, 0x80000000),
+    (MASK, MASK),
 )
 NAMES = {SUB: "SUB", ADD: "ADD", AND: "AND", XOR: "XOR"}
 TABLE = 1024
@@ -73,8 +81,14 @@ def _row(*operations: _Operation) -> Row:
     gathered, counts = _gathered(operations)
     table = {TABLE // 4 + at: word for at, word in enumerate(word for pair in OPERANDS for word in pair)}
     name = "conditions after " + ", ".join(str(operation) for operation in operations)
-    return Row(name, {**dict(enumerate(words)), **table}, counts + 2, [counts // 3, counts // 3 + 1, counts // 2],
-               {"R0": 0, "R5": gathered, "PC": len(words) - 1}, {0: len(OPERANDS), 7: TABLE})
+    return Row(
+        name,
+        {**dict(enumerate(words)), **table},
+        counts + 2,
+        [counts // 3, counts // 3 + 1, counts // 2],
+        {"R0": 0, "R5": gathered, "PC": len(words) - 1},
+        {0: len(OPERANDS), 7: TABLE},
+    )
 
 
 def _gathered(operations: Sequence[_Operation]) -> tuple[int, int]:

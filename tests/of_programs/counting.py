@@ -45,7 +45,9 @@ def counted_by_library(library: Library, machine: Machine, inputs: Inputs, range
     return Counted(one + other, processors)
 
 
-def differences(library: Library, counter: Path, text: bytes, path: Path, split: int, states: Recording) -> Iterator[tuple[int, str, str]]:
+def differences(
+    library: Library, counter: Path, text: bytes, path: Path, split: int, states: Recording
+) -> Iterator[tuple[int, str, str]]:
     """The counts, the parts and what shows it, wherever the library counts a run otherwise than the machine in C. The recording in a
     file has these bytes; it is also counted in two runs, which meet at a count. The states are those of its checkpoints."""
     start, to = library.claim(text, 0), states.checkpoints[-1].count

@@ -4,8 +4,26 @@ import struct
 from random import Random
 
 from galluspa.assembler import (
-    ADD, ALWAYS, AND, BYTE, DEVICES, DIV, FAD, LINK, MOV, MUL, SUB, U, V, XOR,
-    branch, branch_register, imm, load, reg, store,
+    ADD,
+    ALWAYS,
+    AND,
+    BYTE,
+    DEVICES,
+    DIV,
+    FAD,
+    LINK,
+    MOV,
+    MUL,
+    SUB,
+    U,
+    V,
+    XOR,
+    branch,
+    branch_register,
+    imm,
+    load,
+    reg,
+    store,
 )
 from galluspa.recording import Event
 from galluspa.sessions import KIND_NUMBERS, MOST, MOUSE, Session
@@ -52,9 +70,19 @@ class _Writer:
         self.is_paired_at_end = rng.random() < 0.7  # where the program crosses the end of a page
         self.words: list[int] = []
         self.kinds, self.weights = zip(
-            (self._operation, 26), (self._pair, 20), (self._short_branch, 6), (self._data, 8), (self._own_code, 10),
-            (self._patched_pair, 18), (self._copied_code, 3), (self._turned_code, 10), (self._swapped_patches, 4),
-            (self._device, 8), (self._division, 2), (self._call, 3), (self._branch_by_register, 0.5),
+            (self._operation, 26),
+            (self._pair, 20),
+            (self._short_branch, 6),
+            (self._data, 8),
+            (self._own_code, 10),
+            (self._patched_pair, 18),
+            (self._copied_code, 3),
+            (self._turned_code, 10),
+            (self._swapped_patches, 4),
+            (self._device, 8),
+            (self._division, 2),
+            (self._call, 3),
+            (self._branch_by_register, 0.5),
         )
 
     def session(self, counts: int) -> Session:
@@ -312,11 +340,15 @@ class _Writer:
     def _wild(self) -> None:
         """Any word, an operation that stops, or a load or store that has any address."""
         rng = self.rng
-        self._add(rng.choice((
-            rng.getrandbits(32),
-            self._operation_word(rng.randrange(FAD, FAD + 4)),
-            self._operation_word(DIV),
-            rng.choice((load, store))(rng.randrange(16), rng.randrange(8), rng.getrandbits(20)) | rng.choice((0, BYTE)),
-            branch(rng.randrange(16), rng.getrandbits(22)),
-            branch_register(rng.randrange(16), rng.randrange(16)),
-        )))
+        self._add(
+            rng.choice(
+                (
+                    rng.getrandbits(32),
+                    self._operation_word(rng.randrange(FAD, FAD + 4)),
+                    self._operation_word(DIV),
+                    rng.choice((load, store))(rng.randrange(16), rng.randrange(8), rng.getrandbits(20)) | rng.choice((0, BYTE)),
+                    branch(rng.randrange(16), rng.getrandbits(22)),
+                    branch_register(rng.randrange(16), rng.randrange(16)),
+                )
+            )
+        )

@@ -193,5 +193,3 @@ def memory_of(words: Mapping[int, int] | Sequence[int]) -> bytes:
     for at, word in placed.items():
         memory[4 * at : 4 * at + 4] = word.to_bytes(4, "little")
     return bytes(memory)
-
-

@@ -8,8 +8,35 @@ import struct
 from random import Random
 
 from galluspa.assembler import (
-    ADD, ALWAYS, AND, BYTE, DEVICES, EQ, GT, IOR, KEY, LINK, LT, MOUSE, MOV, MUL, NE, ROR, SERIAL, STATUS, SUB, SWITCHES, TIMER, U, XOR,
-    branch, branch_register, imm, load, reg, store,
+    ADD,
+    ALWAYS,
+    AND,
+    BYTE,
+    DEVICES,
+    EQ,
+    GT,
+    IOR,
+    KEY,
+    LINK,
+    LT,
+    MOUSE,
+    MOV,
+    MUL,
+    NE,
+    ROR,
+    SERIAL,
+    STATUS,
+    SUB,
+    SWITCHES,
+    TIMER,
+    U,
+    XOR,
+    branch,
+    branch_register,
+    imm,
+    load,
+    reg,
+    store,
 )
 from galluspa.recording import Event
 from galluspa.sessions import KIND_NUMBERS, MOST, Session
@@ -42,10 +69,25 @@ class _Writer:
         self.rng = rng
         self.words: list[int] = []
         self.kinds, self.weights = zip(
-            (self._poll, 4), (self._read_time, 2), (self._keep_time, 1), (self._store, 2), (self._load, 3), (self._flip, 2),
-            (self._count_around, 2), (self._set, 2), (self._operate, 3), (self._light, 1), (self._take_key, 2), (self._take_byte, 1),
-            (self._call_frame, 2), (self._inner_loop, 1), (self._rarely_count, 0.2), (self._send_now_and_then, 0.2), (self._copy_byte, 1),
-            (self._store_own_code, 0.3), (self._task, 2),
+            (self._poll, 4),
+            (self._read_time, 2),
+            (self._keep_time, 1),
+            (self._store, 2),
+            (self._load, 3),
+            (self._flip, 2),
+            (self._count_around, 2),
+            (self._set, 2),
+            (self._operate, 3),
+            (self._light, 1),
+            (self._take_key, 2),
+            (self._take_byte, 1),
+            (self._call_frame, 2),
+            (self._inner_loop, 1),
+            (self._rarely_count, 0.2),
+            (self._send_now_and_then, 0.2),
+            (self._copy_byte, 1),
+            (self._store_own_code, 0.3),
+            (self._task, 2),
         )
 
     def session(self, counts: int) -> Session:

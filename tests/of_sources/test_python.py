@@ -1,5 +1,5 @@
 """The Python of this repository, with and without a suffix: pyflakes and mypy find nothing in it, no line of tools/ is too long, and black
-would change nothing in the files that are formatted already."""
+changes nothing."""
 
 import os
 from collections.abc import Iterable, Iterator
@@ -11,27 +11,6 @@ COLUMNS = 132
 NOT_SOURCES = {"out", "__pycache__"}
 # What mypy looks at.
 TYPED = ("tools", "tests", "bench", "docs")
-# The files and folders that black has formatted, by the settings of pyproject.toml. A file or folder comes here as soon as it has:
-# `black FILE ..` formats files, also those that have no suffix.
-FORMATTED = (
-    "tests/conftest.py",
-    "tests/lint",
-    "tests/library",
-    "tests/of_library/arguments.py",
-    "tests/of_library/conftest.py",
-    "tests/of_library/test_library.py",
-    "tests/of_page/conftest.py",
-    "tests/of_page/desks.py",
-    "tests/of_page/test_evidence.py",
-    "tests/of_page/parts.py",
-    "tests/of_page/test_module.py",
-    "tests/of_page/test_use.py",
-    "tests/of_sources",
-    "tests/of_tools/conftest.py",
-    "tests/page",
-    "tests/support",
-    "tests/tools",
-)
 
 
 def sources(top: Path) -> Iterator[Path]:
@@ -100,9 +79,7 @@ class SourcesTest(ToolTest):
         return run(["black", "--check", "--quiet", "--config", TOP / "pyproject.toml", *paths])
 
     def test_black_changes_nothing(self) -> None:
-        places = [TOP / name for name in FORMATTED]
-        self.assertEqual([place for place in places if not place.exists()], [])
-        found = sorted({path for place in places for path in (sources(place) if place.is_dir() else [place])})
+        found = sorted(sources(TOP))
         changed = (
             [str(path.relative_to(TOP)) for path in found if self.formatted(path).status] if self.formatted(*found).status else []
         )

@@ -16,8 +16,17 @@ from dataclasses import dataclass
 from pathlib import Path
 from typing import IO, Any
 
-FLAGS = ("--headless=new", "--no-sandbox", "--disable-gpu", "--hide-scrollbars", "--no-first-run", "--disable-extensions",
-         "--disable-background-networking", "--host-resolver-rules=MAP * ~NOTFOUND, EXCLUDE 127.0.0.1", "--force-device-scale-factor=1")
+FLAGS = (
+    "--headless=new",
+    "--no-sandbox",
+    "--disable-gpu",
+    "--hide-scrollbars",
+    "--no-first-run",
+    "--disable-extensions",
+    "--disable-background-networking",
+    "--host-resolver-rules=MAP * ~NOTFOUND, EXCLUDE 127.0.0.1",
+    "--force-device-scale-factor=1",
+)
 
 WIDTHS = (420, 800, 1100, 1280, 1920)
 
@@ -394,8 +403,9 @@ def browser(profile: Path | None = None) -> Iterator[Browser]:
 
     with tempfile.TemporaryDirectory(ignore_cleanup_errors=True) as folder, tempfile.TemporaryFile() as errors:
         command = ["chromium", *FLAGS, f"--user-data-dir={profile or folder}", "--remote-debugging-pipe"]
-        running = subprocess.Popen(command, preexec_fn=place_pipes, close_fds=False, stdin=subprocess.DEVNULL,
-                                   stdout=subprocess.DEVNULL, stderr=errors)
+        running = subprocess.Popen(
+            command, preexec_fn=place_pipes, close_fds=False, stdin=subprocess.DEVNULL, stdout=subprocess.DEVNULL, stderr=errors
+        )
         os.close(from_us)
         os.close(to_us)
         found = Browser(Pipe(to_browser, from_browser, errors), running)

@@ -93,9 +93,7 @@ def claim(count: int, pages: Mapping[int, int] | None = None, **parts: Any) -> C
     return Checkpoint(count, table=table_of({0: 1} if pages is None else pages), **parts)
 
 
-def encoded(
-    version: int, pool: Iterable[bytes], checkpoints: Iterable[Checkpoint], events: Iterable[Event] = ()
-) -> bytes:
+def encoded(version: int, pool: Iterable[bytes], checkpoints: Iterable[Checkpoint], events: Iterable[Event] = ()) -> bytes:
     """A recording in a version; in version 1, rate and phase are left out."""
     return write(Recording(version, b"".join(pool), list(events), list(checkpoints)))
 

@@ -117,8 +117,10 @@ class AssembleTest(ToolTest):
         self.assertEqual(json.loads((EXAMPLES / "hello.json").read_bytes())["pages"][0]["hex"], image.read_bytes().hex())
         lines = self.assemble(HELLO, "--words").output.decode().splitlines()
         self.assertEqual(lines[0], "     0  5100FFC8      2  MOV R1, SERIAL")
-        self.assertEqual(lines[7:10], ["     7  E7FFFFFF      9  done: B done", '     8  6C6C6548     10  text: byte "Hello, world\\n"',
-                                       "     9  77202C6F"])
+        self.assertEqual(
+            lines[7:10],
+            ["     7  E7FFFFFF      9  done: B done", '     8  6C6C6548     10  text: byte "Hello, world\\n"', "     9  77202C6F"],
+        )
 
     def test_labels_constants_and_expressions(self) -> None:
         for source, words in (
@@ -137,9 +139,12 @@ class AssembleTest(ToolTest):
             self.assertEqual(words_in(source), words, source)
 
     def test_says_what_a_session_needs(self) -> None:
-        made = json.loads(self.assemble(
-            "set R2 = -1\nset R3 = x + 1\nset h = 5\nset flags = NV\nrate 1000\nphase 999\nstart x\norigin 400H\nword 0\n"
-            'x: B x\ninput 5, key, "Hi"\ninput 5 + 1, mouse, 1 \ninput 7, TIMER, 0\ncheckpoints 9, 3\nevery 100, 250').output)
+        made = json.loads(
+            self.assemble(
+                "set R2 = -1\nset R3 = x + 1\nset h = 5\nset flags = NV\nrate 1000\nphase 999\nstart x\norigin 400H\nword 0\n"
+                'x: B x\ninput 5, key, "Hi"\ninput 5 + 1, mouse, 1 \ninput 7, TIMER, 0\ncheckpoints 9, 3\nevery 100, 250'
+            ).output
+        )
         registers = [0, 0, 0xFFFFFFFF, 0x405, *[0] * 12]
         self.assertEqual(made["start"], {"R": registers, "H": 5, "PC": 0x101, "flags": 9, "rate": 1000, "phase": 999})
         self.assertEqual(made["inputs"], [[5, "key", 72], [5, "key", 105], [6, "mouse", 1], [7, "timer", 0]])
@@ -167,16 +172,25 @@ class AssembleTest(ToolTest):
             self.assertEqual(json.loads(self.assemble(source).output)["checkpoints"], counts, source)
         no_loop, float_stop = "the machine enters no loop: it stops at count", "with stop 1, float: there is no floating point"
         for source, told in (
-            ("B -1\n until stops, 1000", "2:2: the machine does not stop within 1,000 instructions; a jump to itself is a loop, "
-             "and no stop"),
+            (
+                "B -1\n until stops, 1000",
+                "2:2: the machine does not stop within 1,000 instructions; a jump to itself is a loop, " "and no stop",
+            ),
             ("FAD R0, R0, R0\nuntil loops", f"2:1: {no_loop} 1, at word 0, {float_stop}"),
             ("BNO 0\nDIV R0, R0, R0\nuntil loops", f"3:1: {no_loop} 2, at word 1, with stop 2, divisor: the divisor is below 1"),
-            ("until loops\nMOV R0, 5", f"1:1: {no_loop} 262,145, at word 262,144, with stop 3, fetch: it ran past the end of "
-             "the program, or branched out of the memory; end it with a jump to itself"),
-            ("until loops\nMOV R1, -68\nLDR R0, R1, 0", f"1:1: {no_loop} 2, at word 1, with stop 4, address: the address is "
-             "neither memory nor a device"),
-            ("ADD R0, R0, 1\nB -2\nuntil loops, 90", "3:1: the machine does not enter a loop that it never leaves within 90 "
-             "instructions"),
+            (
+                "until loops\nMOV R0, 5",
+                f"1:1: {no_loop} 262,145, at word 262,144, with stop 3, fetch: it ran past the end of "
+                "the program, or branched out of the memory; end it with a jump to itself",
+            ),
+            (
+                "until loops\nMOV R1, -68\nLDR R0, R1, 0",
+                f"1:1: {no_loop} 2, at word 1, with stop 4, address: the address is " "neither memory nor a device",
+            ),
+            (
+                "ADD R0, R0, 1\nB -2\nuntil loops, 90",
+                "3:1: the machine does not enter a loop that it never leaves within 90 " "instructions",
+            ),
         ):
             self.assert_wrong(source, told)
         ran = self.assemble("ADD R0, R0, 1\nB -2\nuntil loops", "--limit", 1)
@@ -186,11 +200,15 @@ class AssembleTest(ToolTest):
         last, key = "the last checkpoint is at 5, and ends the run", "input 5, key, 1\n"
         none = "note: no checkpoint, so a recording runs no instruction: add every, until or checkpoints"
         rows: list[tuple[str, list[str]]] = [
-            ("a: B a", [f"1:1: {none}"]), ("a: B a\ninput 5, key, 1", [f"1:1: {none}"]),
+            ("a: B a", [f"1:1: {none}"]),
+            ("a: B a\ninput 5, key, 1", [f"1:1: {none}"]),
             (f"a: B a\n{key}checkpoints 5", [f"2:1: note: this input never comes: {last}"]),
-            (f"a: B a\n input 4, key, 1\n{key} {key} input 6, key, 'a'\ncheckpoints 1, 5",
-             [f"3:1: note: this input and 2 after it never come: {last}"]),
-            (f"a: B a\n{key}checkpoints 6", []), ("a: B a\nuntil loops", []),
+            (
+                f"a: B a\n input 4, key, 1\n{key} {key} input 6, key, 'a'\ncheckpoints 1, 5",
+                [f"3:1: note: this input and 2 after it never come: {last}"],
+            ),
+            (f"a: B a\n{key}checkpoints 6", []),
+            ("a: B a\nuntil loops", []),
         ]
         for source, told in rows:
             ran = self.assemble(source)
@@ -204,8 +222,12 @@ class AssembleTest(ToolTest):
     def test_the_session_tool_finds_the_same_ends(self) -> None:
         image = self.folder / "it.bin"
         self.assemble(HELLO, "--image", image)
-        for words, counts in (("--until-loops", [69]), ("--until-loops --every 30", [30, 60, 69]),
-                              ("--until-loops --every 69", [69]), ("--until-loops --most 69", [69])):
+        for words, counts in (
+            ("--until-loops", [69]),
+            ("--until-loops --every 30", [30, 60, 69]),
+            ("--until-loops --every 69", [69]),
+            ("--until-loops --most 69", [69]),
+        ):
             ran = tool("session", "--memory", image, *words.split())
             self.assertEqual(json.loads(ran.output)["checkpoints"], counts)
         stops = self.file("stops.bin", struct.pack("<2I", 0x40000005, 0x000C0000))
@@ -220,14 +242,24 @@ class AssembleTest(ToolTest):
 
     def test_each_mistake_is_told_at_its_place(self) -> None:
         for line, told in (
-            ("MOV R1, 70000", "1:9: the immediate operand 70,000 is not from -65,536 to 65,535: write MOV' R1, 1 and then "
-             "IOR R1, R1, 4464"),
-            ("MOV R1, -70000", "1:9: the immediate operand -70,000 is not from -65,536 to 65,535: write MOV' R1, 65534 and "
-             "then IOR R1, R1, 61072"),
-            ("MOV R1, display", "1:9: the immediate operand 950,016 is not from -65,536 to 65,535: write MOV' R1, display / "
-             "10000H and then IOR R1, R1, display % 10000H"),
-            ("ADD R1, R1, 70000", "1:13: the immediate operand 70,000 is not from -65,536 to 65,535: MOV' and then IOR bring "
-             "it into a register"),
+            (
+                "MOV R1, 70000",
+                "1:9: the immediate operand 70,000 is not from -65,536 to 65,535: write MOV' R1, 1 and then " "IOR R1, R1, 4464",
+            ),
+            (
+                "MOV R1, -70000",
+                "1:9: the immediate operand -70,000 is not from -65,536 to 65,535: write MOV' R1, 65534 and "
+                "then IOR R1, R1, 61072",
+            ),
+            (
+                "MOV R1, display",
+                "1:9: the immediate operand 950,016 is not from -65,536 to 65,535: write MOV' R1, display / "
+                "10000H and then IOR R1, R1, display % 10000H",
+            ),
+            (
+                "ADD R1, R1, 70000",
+                "1:13: the immediate operand 70,000 is not from -65,536 to 65,535: MOV' and then IOR bring " "it into a register",
+            ),
             ("MOV R1, 100000000H", "1:9: the immediate operand 4,294,967,296 is not from -65,536 to 65,535"),
             ("MOV' R1, -1", "1:10: the upper half -1 is not from 0 to 65,535"),
             ("LDR R1, R2, 524288", "1:13: the offset 524,288 is not from -524,288 to 524,287"),
@@ -278,7 +310,8 @@ class AssembleTest(ToolTest):
             ("wait: B wat", "1:9: wat is not defined: did you mean wait?"),
             ("wait: B waits", "1:9: waits is not defined: did you mean wait?"),
             ("wait: B want", "1:9: want is not defined: did you mean wait?"),
-            ("wait: B wants", "1:9: wants is not defined"), ("ab: B ac", "1:7: ac is not defined"),
+            ("wait: B wants", "1:9: wants is not defined"),
+            ("ab: B ac", "1:7: ac is not defined"),
             ("MOV R1, SERAIL", "1:9: SERAIL is not defined: did you mean SERIAL?"),
             ("word " + "(" * 51 + "1" + ")" * 51, "1:56: signs, parentheses and constants are nested deeper than 50"),
             ("byte 256", "1:6: 256 is not a byte from -128 to 255"),
@@ -289,23 +322,37 @@ class AssembleTest(ToolTest):
             ('MOV R0, "ab"', '1:9: "ab" is neither a number nor a name'),
             ("LDR R0, R1, R2", "1:13: R2 is a register, and the offset is a number: ADD the two first"),
             ("X EQU 5", "1:1: X is neither an instruction nor a directive: write X = VALUE"),
-            ("LSLS R0, R0, 1", "1:1: LSLS is neither an instruction nor a directive: write the name without its last letter: each "
-             "operation sets flags and takes a number"),
+            (
+                "LSLS R0, R0, 1",
+                "1:1: LSLS is neither an instruction nor a directive: write the name without its last letter: each "
+                "operation sets flags and takes a number",
+            ),
             ("byte 'é'", "1:7: 'é' is not an ASCII character: write its bytes as \\xHH"),
             ('byte "a\\q"', "1:8: \\q is not an escape: they are \\n \\r \\t \\0 \\\\ \\\" \\' and \\xHH"),
             ("word 1 @ 2", "1:8: '@' begins no name, number, string or sign: a comment begins with a semicolon"),
             ("word 1 ! 2", "1:8: '!' begins no name, number, string or sign"),
-            ("MOV R0, #5", "1:9: '#' begins no name, number, string or sign: a number is written without it, and a "
-             "comment begins with a semicolon"),
-            ("LDR R0, [R1]", "1:9: '[' begins no name, number, string or sign: an address is a register and an "
-             "offset, as in LDR R1, R2, 4"),
-            (".word 5", "1:1: '.' begins no name, number, string or sign: a directive has no dot, and there are no "
-             "sections"),
-            ("MOV R0, R1 // c", "1:12: a comment begins with a semicolon"), ("/* c */", "1:1: a comment begins with a semicolon"),
-            ("cmp r0, r1", "1:1: cmp is neither an instruction nor a directive: write SUB, AND or XOR into a register that "
-             "is free, and then a branch"),
-            ("strne R0, R1, 0", "1:1: strne is neither an instruction nor a directive: write a branch over it, such as BNE LABEL: "
-             "branches alone have conditions"),
+            (
+                "MOV R0, #5",
+                "1:9: '#' begins no name, number, string or sign: a number is written without it, and a "
+                "comment begins with a semicolon",
+            ),
+            (
+                "LDR R0, [R1]",
+                "1:9: '[' begins no name, number, string or sign: an address is a register and an " "offset, as in LDR R1, R2, 4",
+            ),
+            (".word 5", "1:1: '.' begins no name, number, string or sign: a directive has no dot, and there are no " "sections"),
+            ("MOV R0, R1 // c", "1:12: a comment begins with a semicolon"),
+            ("/* c */", "1:1: a comment begins with a semicolon"),
+            (
+                "cmp r0, r1",
+                "1:1: cmp is neither an instruction nor a directive: write SUB, AND or XOR into a register that "
+                "is free, and then a branch",
+            ),
+            (
+                "strne R0, R1, 0",
+                "1:1: strne is neither an instruction nor a directive: write a branch over it, such as BNE LABEL: "
+                "branches alone have conditions",
+            ),
             ("JMP 5", "1:1: JMP is neither an instruction nor a directive: write B LABEL"),
             ("a: a = 5", "1:1: a constant has no label"),
             ("R1: B -1", "1:1: R1 is the name of a register"),
@@ -326,7 +373,7 @@ class AssembleTest(ToolTest):
             ("input 5, pen, 3", "1:10: pen is none of timer, switches, mouse, key, serial"),
             ("input 3, key, 300", "1:15: the value for key 300 is not from 0 to 255"),
             ("input 3, mouse, 800H", "1:17: 800H has bits outside the mask 073FF3FFH of the mouse"),
-            ('input 3, timer, "a"', '1:17: "a" is neither a number nor a name: write \'a\''),
+            ('input 3, timer, "a"', "1:17: \"a\" is neither a number nor a name: write 'a'"),
             ("checkpoints", "1:1: checkpoints needs counts"),
             ("checkpoints 0", "1:13: the count 0 is not from 1 to 1,099,511,627,776"),
             ("every 5", "1:1: every needs an end: every N, LAST, or a line with until"),
@@ -349,9 +396,13 @@ class AssembleTest(ToolTest):
 
     def test_all_mistakes_are_told_in_one_run(self) -> None:
         self.assert_wrong(
-            "a: LDR R1, R2, 524288\na: B b\nword 1 2\n@\n", "1:16: the offset 524,288 is not from -524,288 to 524,287",
-            "2:1: a is defined in line 1 already", "2:6: b is not defined", "3:8: 2 does not continue the expression",
-            "4:1: '@' begins no name, number, string or sign: a comment begins with a semicolon")
+            "a: LDR R1, R2, 524288\na: B b\nword 1 2\n@\n",
+            "1:16: the offset 524,288 is not from -524,288 to 524,287",
+            "2:1: a is defined in line 1 already",
+            "2:6: b is not defined",
+            "3:8: 2 does not continue the expression",
+            "4:1: '@' begins no name, number, string or sign: a comment begins with a semicolon",
+        )
         self.assert_wrong("input 5, key, 1\ninput 4, key, 1", "2:7: the count 4 is not from 5 to 1,099,511,627,776")
         self.assert_wrong("until stops\nuntil loops", "2:1: until is in line 1 already")
         self.assert_wrong("word x\nword x\nx = y\n", "3:5: y is not defined")
@@ -364,9 +415,11 @@ class AssembleTest(ToolTest):
         self.assert_wrong("word 1, 2\norigin 4\nword 3", "2:1: the bytes from 4H to 7H are filled from line 1 on, too")
         self.assert_wrong("origin 4\nword 3\norigin 0\nword 1, 2", "3:1: the bytes from 4H to 7H are filled from line 1 on, too")
         self.assert_wrong("origin 0FFFFCH\nword 1\nword 2\nword 3", "3:1: from here on it is beyond the memory of 1,048,576 bytes")
-        self.assert_wrong("word 1, 2\norigin 4\nword 3\norigin 0\nword 4\norigin 8\nword 5",
-                          "2:1: the bytes from 4H to 7H are filled from line 1 on, too",
-                          "4:1: the bytes from 0H to 3H are filled from line 1 on, too")
+        self.assert_wrong(
+            "word 1, 2\norigin 4\nword 3\norigin 0\nword 4\norigin 8\nword 5",
+            "2:1: the bytes from 4H to 7H are filled from line 1 on, too",
+            "4:1: the bytes from 0H to 3H are filled from line 1 on, too",
+        )
         self.assertEqual(words_in("origin 0FFFFCH\nword 9")[-1], 9)
 
     def test_refuses_bad_input(self) -> None:
@@ -445,11 +498,17 @@ class PageTest(ToolTest):
 
     def test_a_borrow_is_c_as_it_says(self) -> None:
         for mnemonic, one, other, is_taken in (
-            ("BCS", 3, 5, True), ("BCC", 3, 5, False), ("BCS", 5, 3, False), ("BCC", 5, 3, True), ("BCC", 4, 4, True),
-            ("BCS", 4, -1, True), ("BCS", -1, 4, False),
+            ("BCS", 3, 5, True),
+            ("BCC", 3, 5, False),
+            ("BCS", 5, 3, False),
+            ("BCC", 5, 3, True),
+            ("BCC", 4, 4, True),
+            ("BCS", 4, -1, True),
+            ("BCS", -1, 4, False),
         ):
-            made = self.recorded(f"MOV R1, {one}\nMOV R3, {other}\nSUB R2, R1, R3\n{mnemonic} yes\nno: B no\n"
-                                 "yes: MOV R0, 1\nB no\nuntil loops")
+            made = self.recorded(
+                f"MOV R1, {one}\nMOV R3, {other}\nSUB R2, R1, R3\n{mnemonic} yes\nno: B no\n" "yes: MOV R0, 1\nB no\nuntil loops"
+            )
             taken = recording.read(made).checkpoints[-1].registers[0]
             self.assertEqual(taken, int(is_taken), f"{mnemonic} after {one} - {other}")
 
@@ -464,5 +523,3 @@ class PageTest(ToolTest):
             lower = group(r"and then (IOR R4, R4, \d+)", it.problems[0].text)
             made = self.recorded(f"{upper}\n{lower}\ncheckpoints 2")
             self.assertEqual(recording.read(made).checkpoints[-1].registers[4], number & 0xFFFFFFFF)
-
-

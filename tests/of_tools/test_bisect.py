@@ -54,11 +54,11 @@ MISTAKES = (
     Mistake("an operation", "machine.h", "x = b & ~c;", "x = b & c;", FIRST + 2),
     Mistake("a flag", "machine.h", "m->c = sum >> 32;", "m->c = 0;", FIRST + 3),
     Mistake("the flags as a word", "machine.h", "(uint32_t)m->c << 29", "(uint32_t)m->v << 29", FIRST + 4),
-    Mistake("the high word of a product", "machine.h", "(uint64_t)((int64_t)(int32_t)b * (int32_t)c)",
-            "(uint64_t)b * c", FIRST + 5),
+    Mistake(
+        "the high word of a product", "machine.h", "(uint64_t)((int64_t)(int32_t)b * (int32_t)c)", "(uint64_t)b * c", FIRST + 5
+    ),
     Mistake("a division of a negative number", "machine.h", "if (rest < 0) { rest += c; quotient--; }", "", FIRST + 7),
-    Mistake("the lane of a byte stored", "machine.h", "(m->r[a] & 255) << shift;",
-            "(m->r[a] & 255) << (24 - shift);", FIRST + 8),
+    Mistake("the lane of a byte stored", "machine.h", "(m->r[a] & 255) << shift;", "(m->r[a] & 255) << (24 - shift);", FIRST + 8),
     Mistake("the lane of a byte loaded", "machine.h", "byte ? *word >> shift & 255", "byte ? *word & 255", FIRST + 10),
     Mistake("a device", "machine.h", "(m->waiting != 0) << 28", "(m->waiting > 1) << 28", FIRST + 11),
     Mistake("a key that stays", "machine.h", "m->waiting--;", "", FIRST + 12),
@@ -126,18 +126,19 @@ class BisectTest(ToolTest):
 
     def test_what_differs_is_told(self) -> None:
         lines = self.bisect(5, "--steps", 1).output.decode().splitlines()
-        self.assertEqual(lines[2:5], [
-            "             the other  the machine", "Mem[000800]  0000000F   0F000000", ""])
-        self.assertEqual(lines[5:], [
-            f"{FIRST + 8:>10}      11  B2000803  STB R2, R0, 2051        Mem[000800] 00000000 → 0F000000"])
+        self.assertEqual(lines[2:5], ["             the other  the machine", "Mem[000800]  0000000F   0F000000", ""])
+        self.assertEqual(lines[5:], [f"{FIRST + 8:>10}      11  B2000803  STB R2, R0, 2051        Mem[000800] 00000000 → 0F000000"])
 
     def test_a_digest_serves_as_well_as_a_file(self) -> None:
         memory = self.folder / "memory.bin"
-        script = self.file("digest", f"""#!/bin/bash
+        script = self.file(
+            "digest",
+            f"""#!/bin/bash
 shown=$({self.built}/5/state {self.built}/it.orsr $1 {memory})
 digest=$(sha256sum < {memory} | head -c 64)
 echo "${{shown%, \\"memory\\"*}}, \\"memory_sha256\\": \\"$digest\\"}}"
-""")
+""",
+        )
         script.chmod(0o755)
         ran = tool("bisect", self.built / "it.json", "--", script, "{count}")
         self.assertEqual((ran.errors, ran.status), ("", 1))
@@ -146,8 +147,11 @@ echo "${{shown%, \\"memory\\"*}}, \\"memory_sha256\\": \\"$digest\\"}}"
 
     def wrong_at(self, count: int) -> Path:
         """A command that shows a wrong R5 at one count alone, of a program that sets it to 1."""
-        command = self.file("other", f'#!/bin/sh\nr=1; [ $1 -eq 0 ] && r=0; [ $1 -eq {count} ] && r=9\n'
-                            'echo "{\\"R\\": [0,0,0,0,0,$r,0,0,0,0,0,0,0,0,0,0]}"\n')
+        command = self.file(
+            "other",
+            f"#!/bin/sh\nr=1; [ $1 -eq 0 ] && r=0; [ $1 -eq {count} ] && r=9\n"
+            'echo "{\\"R\\": [0,0,0,0,0,$r,0,0,0,0,0,0,0,0,0,0]}"\n',
+        )
         command.chmod(0o755)
         return command
 
@@ -182,25 +186,34 @@ echo "${{shown%, \\"memory\\"*}}, \\"memory_sha256\\": \\"$digest\\"}}"
     def test_what_the_run_does_not_exercise_is_told(self) -> None:
         short = self.file("short.json", json.dumps(session([0x45000001, 0x45000001, JUMP], [8])))
         ran = tool("bisect", short, "--", self.wrong_at(9), "{count}")
-        self.assertEqual(ran.output.decode().splitlines(), [
-            "the same at 8, and at each of the 9 counts that were looked at",
-            "none of the 8 instructions is one of these:",
-            "operations: LSL, ASR, ROR, AND, ANN, IOR, XOR, ADD, SUB, MUL, DIV, FAD, FSB, FML, FDV",
-            "branches: BMI, BEQ, BCS, BVS, BLS, BLT, BLE, BPL, BNE, BCC, BVC, BHI, BGE, BGT, BNO",
-            "memory: LDR, LDB, STR, STB",
-            "the recordings of examples/suite exercise them all (docs/suites.md says how to run an emulator on them)",
-        ])
+        self.assertEqual(
+            ran.output.decode().splitlines(),
+            [
+                "the same at 8, and at each of the 9 counts that were looked at",
+                "none of the 8 instructions is one of these:",
+                "operations: LSL, ASR, ROR, AND, ANN, IOR, XOR, ADD, SUB, MUL, DIV, FAD, FSB, FML, FDV",
+                "branches: BMI, BEQ, BCS, BVS, BLS, BLT, BLE, BPL, BNE, BCC, BVC, BHI, BGE, BGT, BNO",
+                "memory: LDR, LDB, STR, STB",
+                "the recordings of examples/suite exercise them all (docs/suites.md says how to run an emulator on them)",
+            ],
+        )
 
     def test_of_a_long_run_all_instructions_are_looked_at(self) -> None:
         """The program of the mistakes, which does some of its instructions once, and then jumps to itself."""
         ran = self.bisect(-1, "--to", 4_000_000)
-        self.assertEqual((ran.status, ran.output.decode().splitlines()[1:]), (0, [
-            "none of the 4,000,000 instructions is one of these:",
-            "operations: LSL, ASR, ROR, AND, IOR, XOR, FAD, FSB, FML, FDV",
-            "branches: BMI, BEQ, BCS, BVS, BLS, BLT, BLE, BPL, BCC, BVC, BHI, BGE, BGT, BNO",
-            "memory: STR",
-            "the recordings of examples/suite exercise them all (docs/suites.md says how to run an emulator on them)",
-        ]))
+        self.assertEqual(
+            (ran.status, ran.output.decode().splitlines()[1:]),
+            (
+                0,
+                [
+                    "none of the 4,000,000 instructions is one of these:",
+                    "operations: LSL, ASR, ROR, AND, IOR, XOR, FAD, FSB, FML, FDV",
+                    "branches: BMI, BEQ, BCS, BVS, BLS, BLT, BLE, BPL, BCC, BVC, BHI, BGE, BGT, BNO",
+                    "memory: STR",
+                    "the recordings of examples/suite exercise them all (docs/suites.md says how to run an emulator on them)",
+                ],
+            ),
+        )
 
     def test_refuses_bad_input(self) -> None:
         session_file, say = self.built / "it.json", ("sh", "-c")
@@ -215,9 +228,14 @@ echo "${{shown%, \\"memory\\"*}}, \\"memory_sha256\\": \\"$digest\\"}}"
         self.assert_refused(tool("bisect", none, "--", "echo", "{count}"), "no checkpoint: give --to N")
         self.assert_refused(tool("bisect", session_file, "--", self.folder / "none", "{count}"), "No such file")
         for told, printed in (
-            (": ended with status 3", "exit 3"), ("is not JSON", "echo {"), ("is not an object", "echo []"), ("is not an object", "echo 1"),
-            ("'X' is none of", 'echo "{\\"X\\": 1}"'), ("H is not a whole number", 'echo "{\\"H\\": -1}"'),
-            ("R is not a list of 16 numbers", 'echo "{\\"R\\": [1]}"'), ("out is not text", 'echo "{\\"out\\": \\"abc\\"}"'),
+            (": ended with status 3", "exit 3"),
+            ("is not JSON", "echo {"),
+            ("is not an object", "echo []"),
+            ("is not an object", "echo 1"),
+            ("'X' is none of", 'echo "{\\"X\\": 1}"'),
+            ("H is not a whole number", 'echo "{\\"H\\": -1}"'),
+            ("R is not a list of 16 numbers", 'echo "{\\"R\\": [1]}"'),
+            ("out is not text", 'echo "{\\"out\\": \\"abc\\"}"'),
             ("memory is a file that is not read", 'echo "{\\"memory\\": \\"/none\\"}"'),
             ("memory_sha256 is not a SHA-256", 'echo "{\\"memory_sha256\\": \\"ab\\"}"'),
             ("the emulator and the machine differ at count 0, in H, PC", 'echo "{\\"PC\\": 1, \\"H\\": 3}"'),

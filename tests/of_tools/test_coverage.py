@@ -12,18 +12,26 @@ SUITE = EXAMPLES / "suite"
 MISTAKES = (
     ("x = b & ~c;", "x = b & c;", ["operations/ann"]),
     ("case 4: is = m->c | m->z; break;", "case 4: is = m->c; break;", ["branches/bhi", "branches/bls"]),
-    ("case 11:\n        if ((int32_t)c < 1)", "case 11:\n        if (!c)",
-     ["stops/divisor-below-0", "stops/divisor-below-0-u", "stops/divisor-im-u-v", "stops/divisor-im-v"]),
-    ("m->v = ((b ^ c) & (x ^ b)) >> 31;", "m->v = ((b ^ c) & (x ^ c)) >> 31;",
-     ["operations/mov-h-and-flags", "operations/sub", "operations/sub-after-a-carry"]),
+    (
+        "case 11:\n        if ((int32_t)c < 1)",
+        "case 11:\n        if (!c)",
+        ["stops/divisor-below-0", "stops/divisor-below-0-u", "stops/divisor-im-u-v", "stops/divisor-im-v"],
+    ),
+    (
+        "m->v = ((b ^ c) & (x ^ b)) >> 31;",
+        "m->v = ((b ^ c) & (x ^ c)) >> 31;",
+        ["operations/mov-h-and-flags", "operations/sub", "operations/sub-after-a-carry"],
+    ),
     ("(m->r[a] & 255) << shift", "(m->r[a] & 255)", ["memory/stb"]),
     ("case 5: return 1;", "case 5: return 0;", ["devices/disk"]),
     ("if (m->waiting < KEYS) m->keys", "if (m->waiting < KEYS - 1) m->keys", ["devices/keys"]),
-    ("case 2: m->serial &= 255; return m->serial;", "case 2: return m->serial & 255;",
-     ["devices/serial", "devices/status"]),
+    ("case 2: m->serial &= 255; return m->serial;", "case 2: return m->serial & 255;", ["devices/serial", "devices/status"]),
     ("step(m); if (!m->stop) tick(m);", "step(m); tick(m);", ["stops/inputs"]),
-    ("{ m->pc = next; return; }", "{ m->pc = next; if (w >> 28 & 1) put(m, 15, 4 * next); return; }",
-     [f"branches/b{name}" for name in "cc cs eq ge gt hi le ls lt mi ne no pl vc vs".split()]),
+    (
+        "{ m->pc = next; return; }",
+        "{ m->pc = next; if (w >> 28 & 1) put(m, 15, 4 * next); return; }",
+        [f"branches/b{name}" for name in "cc cs eq ge gt hi le ls lt mi ne no pl vc vs".split()],
+    ),
 )
 
 

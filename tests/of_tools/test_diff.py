@@ -30,7 +30,9 @@ class DiffTest(ToolTest):
     def test_what_is_the_same_is_so_in_any_version(self) -> None:
         face, other = (EXAMPLES / name for name in ("face.orsr", "face-version-1.orsr"))
         ran = tool("diff", face, other)
-        self.assertEqual((ran.output, ran.errors, ran.status), (b"the same: 0 inputs, and 4 checkpoints after the initial state\n", "", 0))
+        self.assertEqual(
+            (ran.output, ran.errors, ran.status), (b"the same: 0 inputs, and 4 checkpoints after the initial state\n", "", 0)
+        )
         # The same pages, in another order and with one that nothing names.
         pool, tables = [page_of(JUMP), page_of(1), page_of(2)], ({0: 1, 5: 2}, {0: 3, 5: 2})
         one, another = encoded(2, pool[:2], [claim(0, tables[0])]), encoded(2, pool[::-1], [claim(0, tables[1])])
@@ -62,8 +64,10 @@ class DiffTest(ToolTest):
         one = of(pages)
         for other, row in (
             (of({0: 1, 7: 3}, registers=in_register(3, 9), pc=5), ["R3", "00000007", "00000009"]),
-            (of(pages, flags=9, stop=2), ["flags", "----", "N--V"]), (of(pages, stop=2, keys=b""), ["stop", "running", "divisor"]),
-            (of({0: 1, 7: 3}, keys=b"a", output=b"x"), ["keys", "61 62", "61"]), (of(pages, rate=9), ["rate", "0", "9"]),
+            (of(pages, flags=9, stop=2), ["flags", "----", "N--V"]),
+            (of(pages, stop=2, keys=b""), ["stop", "running", "divisor"]),
+            (of({0: 1, 7: 3}, keys=b"a", output=b"x"), ["keys", "61 62", "61"]),
+            (of(pages, rate=9), ["rate", "0", "9"]),
             (of({0: 1}, output=b"Help"), ["out, from byte 3 on", "6C 6F 2C 20 77 6F 72 6C .. of 12 bytes", "70 of 4 bytes"]),
             (of(pages, output=b"Hello"), ["out, from byte 5 on", "2C 20 77 6F 72 6C 64 of 12 bytes", "none, of 5 bytes"]),
             (of({0: 1, 7: 3}), ["page 7, Mem[001C08]", "00000003", "00000004"]),

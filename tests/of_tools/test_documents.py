@@ -18,8 +18,12 @@ SHOWING = [*sorted((TOP / "docs/lessons").glob("*.md")), *(TOP / f"docs/{name}.m
 OVERVIEWS = (TOP / "README.md", TOP / "docs/commands.md")
 CRATES = sorted(TOP.glob("crates/*/README.md"))
 LINKING = [
-    TOP / "README.md", *sorted(TOP.glob("*/README.md")), EXAMPLES / "suite/README.md", *sorted(TOP.glob("docs/*.md")),
-    *sorted(TOP.glob("docs/lessons/*.md")), *CRATES,
+    TOP / "README.md",
+    *sorted(TOP.glob("*/README.md")),
+    EXAMPLES / "suite/README.md",
+    *sorted(TOP.glob("docs/*.md")),
+    *sorted(TOP.glob("docs/lessons/*.md")),
+    *CRATES,
 ]
 CONSOLE = re.compile(r"^( *)```console\n(.*?)^\1```$", re.DOTALL | re.MULTILINE)
 TABLE = re.compile(r"^<!-- (galluspa listing .*) -->\n((?:\|.*\n)+)", re.MULTILINE)
@@ -79,7 +83,9 @@ class DocumentsTest(ToolTest):
     def test_the_tools_run_as_the_readme_shows_them(self) -> None:
         for part in PARTS:
             (self.folder / part).symlink_to(TOP / part)
-        lines = [line for document in OVERVIEWS for line in document.read_text().splitlines() if line.startswith(("galluspa ", "cc "))]
+        lines = [
+            line for document in OVERVIEWS for line in document.read_text().splitlines() if line.startswith(("galluspa ", "cc "))
+        ]
         self.assertGreaterEqual(len(lines), 20)
         for line in lines:
             ran = run(["bash", "-c", line], cwd=self.folder, env=ENVIRONMENT)

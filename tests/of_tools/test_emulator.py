@@ -18,7 +18,10 @@ def compiled(folder: Path, name: str) -> Path:
     program = folder / name
     library = [LIBRARY] if "recorded" in name else []
     flags = ["-O2", "-Wall", "-Wextra", "-Werror", "-Wno-unused-function", "-Wno-unused-result"]
-    command = [str(it) for it in ("cc", *flags, f"-I{TOP}/reference", f"-I{TOP}/include", EXAMPLES / f"c/{name}.c", *library, "-o", program)]
+    command = [
+        str(it)
+        for it in ("cc", *flags, f"-I{TOP}/reference", f"-I{TOP}/include", EXAMPLES / f"c/{name}.c", *library, "-o", program)
+    ]
     subprocess.run(command, check=True)
     return program
 
@@ -68,7 +71,12 @@ class EmulatorTest(ToolTest):
         self.assertLess(1900, times[-1])
 
     def test_a_machine_that_stops_is_recorded_up_to_there(self) -> None:
-        for source, stop in (("MOV R1, 1\nFAD R0, R1, R1", 1), ("DIV R0, R1, R1", 2), ("B 300000", 3), ("MOV' R1, 20H\nLDR R0, R1, 0", 4)):
+        for source, stop in (
+            ("MOV R1, 1\nFAD R0, R1, R1", 1),
+            ("DIV R0, R1, R1", 2),
+            ("B 300000", 3),
+            ("MOV' R1, 20H\nLDR R0, R1, 0", 4),
+        ):
             image = self.image(source)
             shown = run([self.plain, image, 99]).output
             ran, read = self.record(image, 99)

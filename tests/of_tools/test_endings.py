@@ -8,7 +8,21 @@ from unittest import mock
 
 from galluspa import endings
 from galluspa.assembler import (
-    ADD, ALWAYS, DEVICES, IOR, MOV, NE, SUB, TIMER, U, XOR, branch, imm, load, reg, store,
+    ADD,
+    ALWAYS,
+    DEVICES,
+    IOR,
+    MOV,
+    NE,
+    SUB,
+    TIMER,
+    U,
+    XOR,
+    branch,
+    imm,
+    load,
+    reg,
+    store,
 )
 from galluspa.instructions import address, is_store
 from galluspa.library import WORDS, Library
@@ -29,9 +43,12 @@ COUNTER, BOARD, DATA = 6, 7, 8
 def tail(rng: Random) -> list[int]:
     """Instructions that bring a machine back to the same state, after one turn or after two, or at times after none."""
     kinds = [
-        lambda: imm(MOV, rng.randrange(6), 0, rng.randrange(9)), lambda: imm(IOR, rng.randrange(6), rng.randrange(6), 1),
-        lambda: imm(XOR, rng.randrange(6), rng.randrange(6), 3), lambda: store(rng.randrange(6), DATA, 4 * rng.randrange(4)),
-        lambda: load(rng.randrange(6), DATA, 4 * rng.randrange(4)), lambda: load(rng.randrange(6), BOARD, 4),
+        lambda: imm(MOV, rng.randrange(6), 0, rng.randrange(9)),
+        lambda: imm(IOR, rng.randrange(6), rng.randrange(6), 1),
+        lambda: imm(XOR, rng.randrange(6), rng.randrange(6), 3),
+        lambda: store(rng.randrange(6), DATA, 4 * rng.randrange(4)),
+        lambda: load(rng.randrange(6), DATA, 4 * rng.randrange(4)),
+        lambda: load(rng.randrange(6), BOARD, 4),
     ]
     words = [rng.choice(kinds)() for _ in range(rng.choice((0, 0, rng.randrange(9), rng.randrange(LONGEST_TAIL))))]
     if rng.random() < 0.2:
@@ -67,7 +84,20 @@ def states_of(run: Recording) -> list[int]:
         if table not in memories:
             memories[table] = tuple((slot, run.page(page)) for slot, page in enumerate(it.table) if page)
         timer = None if it.rate else it.timer
-        state = it.registers, it.h, it.pc, it.flags, it.stop, it.switches, it.leds, it.mouse, it.serial, it.keys, timer, memories[table]
+        state = (
+            it.registers,
+            it.h,
+            it.pc,
+            it.flags,
+            it.stop,
+            it.switches,
+            it.leds,
+            it.mouse,
+            it.serial,
+            it.keys,
+            timer,
+            memories[table],
+        )
         return numbers.setdefault(state, len(numbers))
 
     return [number(it) for it in run.checkpoints]

@@ -48,8 +48,12 @@ class BindingTest(unittest.TestCase):
 
     def test_a_profile_has_each_word(self) -> None:
         counted = self.library.profile(self.start, self.down.inputs, 101)
-        self.assertEqual([(at, counted.visits[at], counted.departures[at]) for at in counted.visited()], [(0, 1, 0), (1, 50, 0), (2, 50, 50)])
-        self.assertEqual((len(counted.visits), len(counted.departures), counted.instructions, self.start.count), (WORDS, WORDS, 101, 0))
+        self.assertEqual(
+            [(at, counted.visits[at], counted.departures[at]) for at in counted.visited()], [(0, 1, 0), (1, 50, 0), (2, 50, 50)]
+        )
+        self.assertEqual(
+            (len(counted.visits), len(counted.departures), counted.instructions, self.start.count), (WORDS, WORDS, 101, 0)
+        )
         first, later = self.library.profile(self.start, self.down.inputs, 7), self.down.machine(7)
         self.assertEqual(first + self.library.profile(later, self.down.inputs, 101), counted)
 
@@ -82,7 +86,14 @@ class ExecutedTest(unittest.TestCase):
     def test_an_instruction_that_is_changed_back_is_seen(self) -> None:
         """A word is ADD at each other turn, and XOR at the others; and both when the run begins and when it ends it is ADD."""
         turned = 4
-        words = (load(1, 0, 4 * turned), imm(XOR, 1, 1, 0), store(1, 0, 4 * turned), imm(MOV, 3, 0, 0), imm(ADD, 2, 2, 1), branch(ALWAYS, -6))
+        words = (
+            load(1, 0, 4 * turned),
+            imm(XOR, 1, 1, 0),
+            store(1, 0, 4 * turned),
+            imm(MOV, 3, 0, 0),
+            imm(ADD, 2, 2, 1),
+            branch(ALWAYS, -6),
+        )
         flip = words[turned] ^ imm(XOR, 2, 2, 1)
         self.assertEqual(flip & ~0xF0000, 0)
         # The bits in which the two differ are above the low half of a word, so the byte that has them is turned.

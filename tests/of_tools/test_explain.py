@@ -21,7 +21,21 @@ from galluspa.pictures import LIGHT_RED, RED
 from galluspa.program import Program
 from galluspa.sessionfaults import explain_session, explained
 from galluspa.tracing import Run
-from of_tools.samples import EXAMPLES, GALLUSPA, JUMP, PROGRAM, STORED, TOP, ToolTest, record, rejoining, run, session, status_of, tool
+from of_tools.samples import (
+    EXAMPLES,
+    GALLUSPA,
+    JUMP,
+    PROGRAM,
+    STORED,
+    TOP,
+    ToolTest,
+    record,
+    rejoining,
+    run,
+    session,
+    status_of,
+    tool,
+)
 
 CHANGE = re.compile(r"^\| ((?:byte \d+ is [0-9a-f]{2}(?:, )?)+)[^|]*\| `(refused [^`]+)` \|$", re.MULTILINE)
 SIDE = re.compile(rb'src="data:image/png;base64,([^"]+)" [^>]*data-side=')
@@ -67,17 +81,23 @@ class ExplainTest(ToolTest):
 
     def test_all_parts_that_differ_are_told(self) -> None:
         text = self.claiming(record(session(WORDS, [43, 60])), 1, "R0=5", "flags=4", "LEDs=7")
-        self.assertEqual(self.explained(text), [
-            "false checkpoint 1 at 43 part R0", "",
-            "       claimed   the machine",
-            "R0     00000005  00000006",
-            "flags  -Z--      N---",
-            "LEDs   07        00", "",
-            "The last instructions before count 43 that wrote R0:",
-            "         0       0  40000005  MOV R0, 5               R0 00000000 → 00000005",
-            "        41      41  40000006  MOV R0, 6               R0 00000005 → 00000006", "",
-            "R0 had the claimed value at 41 of the counts 0 to 143: last at 41, 2 before.",
-        ])
+        self.assertEqual(
+            self.explained(text),
+            [
+                "false checkpoint 1 at 43 part R0",
+                "",
+                "       claimed   the machine",
+                "R0     00000005  00000006",
+                "flags  -Z--      N---",
+                "LEDs   07        00",
+                "",
+                "The last instructions before count 43 that wrote R0:",
+                "         0       0  40000005  MOV R0, 5               R0 00000000 → 00000005",
+                "        41      41  40000006  MOV R0, 6               R0 00000005 → 00000006",
+                "",
+                "R0 had the claimed value at 41 of the counts 0 to 143: last at 41, 2 before.",
+            ],
+        )
 
     def test_twenty_thousand_instructions_take_seconds(self) -> None:
         text = self.claiming(record(session((0x40080001, 0xE7FFFFFE), [60000])), 1, "R0=20007")
@@ -91,12 +111,16 @@ class ExplainTest(ToolTest):
         made[first : first + 4] = struct.pack("<I", 7)
         made[first + 8 : first + 12] = struct.pack("<I", 8)
         lines = self.explained(bytes(made))
-        self.assertEqual(lines[:5], [
-            "false checkpoint 1 at 60 part page 0", "",
-            "             claimed   the machine",
-            "Mem[000190]  00000007  00000006",
-            "Mem[000198]  00000008  00000000",
-        ])
+        self.assertEqual(
+            lines[:5],
+            [
+                "false checkpoint 1 at 60 part page 0",
+                "",
+                "             claimed   the machine",
+                "Mem[000190]  00000007  00000006",
+                "Mem[000198]  00000008  00000000",
+            ],
+        )
         self.assertIn("The last instructions before count 60 that wrote Mem[000190]:", lines)
         self.assertIn("        44      44  A0200190  STR R0, R2, 400         Mem[000190] 00000000 → 00000006", lines)
         self.assertIn("Mem[000190] had the claimed value at none of the counts 0 to 160.", lines)
@@ -106,10 +130,14 @@ class ExplainTest(ToolTest):
         made = record((EXAMPLES / "hello.json").read_bytes())
         lines = self.explained(made[:-13] + b"Help!!" + made[-7:])
         self.assertEqual(lines[0], "false checkpoint 1 at 30 part out")
-        self.assertEqual(lines[3:6], [
-            "out: claimed are 6 bytes, the machine sent 6; they differ from byte 3 on",
-            "claimed", "00000003  70 21 21                                         p!!",
-        ])
+        self.assertEqual(
+            lines[3:6],
+            [
+                "out: claimed are 6 bytes, the machine sent 6; they differ from byte 3 on",
+                "claimed",
+                "00000003  70 21 21                                         p!!",
+            ],
+        )
         self.assertIn("00000003  6c 6f 2c                                         lo,", lines)
 
     def test_screens_are_told(self) -> None:
@@ -123,7 +151,9 @@ class ExplainTest(ToolTest):
         self.assertEqual(lines[0], "false checkpoint 2 at 8000000 part page 955")
         self.assertIn("The screen: 2 dots differ, at x 576 to 577 and y 219, counted from the left and from below.", lines)
         self.assertTrue(any("++" in line and "--" in line.split()[-1] for line in lines))
-        self.assertIn("None of the 20 instructions before count 8000000 wrote Mem[0EECC8]. The last one before them that wrote it:", lines)
+        self.assertIn(
+            "None of the 20 instructions before count 8000000 wrote Mem[0EECC8]. The last one before them that wrote it:", lines
+        )
         self.assertTrue(any("  4838732      41  A6D00000  STR R6, R13, 0" in line for line in lines))
         ran = tool("report", self.file("false.orsr", bytes(made)))
         self.assertEqual((ran.errors, ran.status), ("", 1))
@@ -141,8 +171,14 @@ class ExplainTest(ToolTest):
         told = session(words, [30_000, 60_000], [(1000, "key", 65), (2000, "serial", 66), (3000, "switches", 5)])
         made = record({**told, "version": 2, "start": {**told["start"], "rate": 25_000, "phase": 0}})
         for claimed, part, did, count in (
-            ("R5=9", "R5", "changed", 1), ("H=9", "H", "changed", None), ("LEDs=9", "LEDs", "wrote", 3), ("serial=9", "serial", "wrote", 2000),
-            ("switches=9", "switches", "wrote", 3000), ("mouse=9", "mouse", "wrote", None), ("timer=9", "timer", "", 24_999), ("rate=25001", "rate", "changed", None),
+            ("R5=9", "R5", "changed", 1),
+            ("H=9", "H", "changed", None),
+            ("LEDs=9", "LEDs", "wrote", 3),
+            ("serial=9", "serial", "wrote", 2000),
+            ("switches=9", "switches", "wrote", 3000),
+            ("mouse=9", "mouse", "wrote", None),
+            ("timer=9", "timer", "", 24_999),
+            ("rate=25001", "rate", "changed", None),
         ):
             lines = self.explained(self.claiming(made, 1, claimed), "--steps", 9)
             none = f"None of the 9 instructions before count 30000 wrote {part}."
@@ -182,8 +218,12 @@ class ExplainTest(ToolTest):
         lines = list(plain(explained(30)))
         self.assertIn("R0  00000005  00000006", lines)
         self.assertIn("The last instructions before count 29 that wrote R0:", lines)
-        self.assertTrue(lines[-1].endswith(" of the counts 0 to 29: last at 29, 14 before. There was no answer: not all was looked at "
-                                           "(--limit)."), lines)
+        self.assertTrue(
+            lines[-1].endswith(
+                " of the counts 0 to 29: last at 29, 14 before. There was no answer: not all was looked at " "(--limit)."
+            ),
+            lines,
+        )
         self.assertNotIn("(--limit)", "\n".join(plain(explained(1000))))
         with self.assertRaisesRegex(TimeIsUp, "no answer: the machine came to count 0"):
             explained(0)
@@ -195,12 +235,18 @@ class ExplainTest(ToolTest):
 
     def test_each_fault_of_the_documents_names_its_field(self) -> None:
         told = {
-            "byte 0 is 00": "the first four bytes", "byte 4 is 09": "the version", "byte 16 is 00": "K + 1",
-            "byte 20 is 01": "the last field of the header", "byte 1048 is 01": "the count of checkpoint 0",
-            "byte 5388 is 01": "the keys of checkpoint 1", "byte 5404 is 01": "the file ends in the bytes sent",
-            "byte 5408 is 02": "the page id of slot 0 of checkpoint 1", "byte 1196 is 00": "change 0 of checkpoint 0",
+            "byte 0 is 00": "the first four bytes",
+            "byte 4 is 09": "the version",
+            "byte 16 is 00": "K + 1",
+            "byte 20 is 01": "the last field of the header",
+            "byte 1048 is 01": "the count of checkpoint 0",
+            "byte 5388 is 01": "the keys of checkpoint 1",
+            "byte 5404 is 01": "the file ends in the bytes sent",
+            "byte 5408 is 02": "the page id of slot 0 of checkpoint 1",
+            "byte 1196 is 00": "change 0 of checkpoint 0",
             "byte 1192 is 00, byte 1193 is 04": "change 0 of checkpoint 0, page id 1 at slot 1024",
-            "byte 1336 is 01": "phase of checkpoint 1", "byte 1340 is 01": "the file ends in checkpoint 1",
+            "byte 1336 is 01": "phase of checkpoint 1",
+            "byte 1340 is 01": "the file ends in checkpoint 1",
             "byte 4 is 02": "of checkpoint 1",
         }
         document = (TOP / "docs/formats.md").read_text()
@@ -223,8 +269,10 @@ class ExplainTest(ToolTest):
         events = record(session([JUMP], [5, 9], [(1, "key", 65), (3, "mouse", 7)]))
         at = 24 + 1024
         for start, content, field in (
-            (at + 16, b"\0" * 8, "the count of event 1"), (at + 8, b"\x09", "the kind of event 0"),
-            (at + 16 + 12, b"\xff\xff\xff\xff", "the value of event 1"), (8, b"\xff\xff\xff\xff", "P, the number of pages"),
+            (at + 16, b"\0" * 8, "the count of event 1"),
+            (at + 8, b"\x09", "the kind of event 0"),
+            (at + 16 + 12, b"\xff\xff\xff\xff", "the value of event 1"),
+            (8, b"\xff\xff\xff\xff", "P, the number of pages"),
             (12, b"\xff\xff\xff\xff", "E, the number of events"),
         ):
             text = events[:start] + content + events[start + len(content) :]
@@ -317,8 +365,10 @@ class SessionTest(ToolTest):
 
     def test_the_tool_ends_as_the_program_does(self) -> None:
         ran = tool("explain", self.file("it.json", changed("version", to=3)))
-        self.assertEqual((ran.output.decode(), ran.errors, ran.status),
-                         ("session refused 2 shape\n\nversion is 3\nrule   version is 1 or 2\n", "", 2))
+        self.assertEqual(
+            (ran.output.decode(), ran.errors, ran.status),
+            ("session refused 2 shape\n\nversion is 3\nrule   version is 1 or 2\n", "", 2),
+        )
         ran = tool("explain", EXAMPLES / "keys.json")
         self.assertRegex(ran.output.decode(), r"^the session breaks no rule: its recording has [\d,]+ bytes\n$")
         self.assertEqual((ran.errors, ran.status), ("", 0))

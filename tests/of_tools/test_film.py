@@ -82,7 +82,9 @@ class FilmTest(ToolTest):
     def test_its_bounds_are_told(self) -> None:
         noise = self.file("noise.orsr", record(session(NOISE, [1000000])))
         ran = tool("film", noise, "--every", 1000, "--frames", 5)
-        self.assertEqual((ran.errors, ran.status), ("galluspa film: the film ends at count 4,000 of 1,000,000, since it has 5 frames\n", 0))
+        self.assertEqual(
+            (ran.errors, ran.status), ("galluspa film: the film ends at count 4,000 of 1,000,000, since it has 5 frames\n", 0)
+        )
         self.assertEqual(len(self.frames(ran.output)), 5)
         ran = tool("film", noise, "--every", 1000, "--frames", 1001)
         self.assertEqual((ran.errors, len(self.frames(ran.output))), ("", 1001))

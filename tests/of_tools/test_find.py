@@ -17,7 +17,20 @@ from galluspa.instructions import address, is_store
 from galluspa.library import Library
 from galluspa.limits import TimeIsUp
 from galluspa.tracing import Run, Step
-from of_tools.samples import EXAMPLES, GALLUSPA, JUMP, STORED, ToolTest, claim, encoded, on_terminal, record, rejoining, session, tool
+from of_tools.samples import (
+    EXAMPLES,
+    GALLUSPA,
+    JUMP,
+    STORED,
+    ToolTest,
+    claim,
+    encoded,
+    on_terminal,
+    record,
+    rejoining,
+    session,
+    tool,
+)
 
 FACE = EXAMPLES / "face.orsr"
 # R1 := -56; R2 := 10; R2 := R2 - 1 until it is 0; R0 := 65 is sent and stored at 400; a jump to itself.
@@ -42,20 +55,24 @@ def accessed(step: Step) -> tuple[range, bool]:
 
 def meets(first: int, end: int, is_stored: bool) -> Callable[[Step], bool]:
     """Whether an instruction accesses one of these bytes."""
+
     def holds(step: Step) -> bool:
         at, stores = accessed(step)
         return stores == is_stored and max(at.start, first) < min(at.stop, end)
+
     return holds
 
 
 def changes(first: int, end: int, mask: int = 0xFFFFFFFF) -> Callable[[Step], bool]:
     """Whether an instruction changes a bit of these bytes that a mask has."""
+
     def holds(step: Step) -> bool:
         for word in step.changed:
             bits = (word.old ^ word.new) & mask
             if any(bits >> 8 * at & 0xFF for at in range(4) if first <= word.address + at < end):
                 return True
         return False
+
     return holds
 
 
@@ -71,17 +88,39 @@ def becomes(part: Callable[[recording.Checkpoint], int], value: int) -> Callable
 
 # What is written on a command line, and whether it holds of an instruction.
 MEANINGS: tuple[tuple[str, Callable[[Step], bool]], ...] = (
-    ("PC=5", lambda it: it.before.pc == 5), ("pc=8", lambda it: it.before.pc == 8), ("9-11", lambda it: 9 <= it.before.pc <= 11), ("PC=0x10-0x20", lambda it: 16 <= it.before.pc <= 32), ("7", lambda it: it.before.pc == 7),
-    ("store 0x193", meets(400, 404, True)), ("store=400-400", meets(400, 401, True)), ("write 0x40000-0x7FFFF", meets(0x40000, 0x80000, True)),
-    ("store page 256-511", meets(0x40000, 0x80000, True)), ("load 0-0x7FFFF", meets(0, 0x80000, False)), ("load 0xFFFFD8", meets(0xFFFFD8, 0xFFFFDC, False)),
-    ("change 0-0xFFFFF", changes(0, 1 << 20)), ("change 0-0xFFFFF mask 1", changes(0, 1 << 20, 1)), ("change Mem[040000]", changes(0x40000, 0x40004)),
-    ("R3=0", becomes(lambda it: it.registers[3], 0)), ("R0=0xFFFFFFFF", becomes(lambda it: it.registers[0], 0xFFFFFFFF)), ("R1=-64", becomes(lambda it: it.registers[1], 0xFFFFFFC0)),
-    ("H=0", becomes(lambda it: it.h, 0)), ("flags=Z", becomes(lambda it: it.flags, 4)), ("flags=N-C-", becomes(lambda it: it.flags, 10)),
-    ("flags=----", becomes(lambda it: it.flags, 0)), ("LEDs=0x41", becomes(lambda it: it.leds, 0x41)),
-    ("switches=9", becomes(lambda it: it.switches, 9)), ("serial=0x142", becomes(lambda it: it.serial, 0x142)),
-    ("serial=0x42", becomes(lambda it: it.serial, 0x42)), ("mouse=7", becomes(lambda it: it.mouse, 7)),
-    ("sent", lambda it: bool(it.after.output)), ("sent 0x41", lambda it: it.after.output == b"A"), ("sent 66", lambda it: it.after.output == b"B"),
-    ("input key", takes(4)), ("input", takes(1, 2, 3, 4, 5)), ("input=timer", takes(1)), ("input serial", takes(5)),
+    ("PC=5", lambda it: it.before.pc == 5),
+    ("pc=8", lambda it: it.before.pc == 8),
+    ("9-11", lambda it: 9 <= it.before.pc <= 11),
+    ("PC=0x10-0x20", lambda it: 16 <= it.before.pc <= 32),
+    ("7", lambda it: it.before.pc == 7),
+    ("store 0x193", meets(400, 404, True)),
+    ("store=400-400", meets(400, 401, True)),
+    ("write 0x40000-0x7FFFF", meets(0x40000, 0x80000, True)),
+    ("store page 256-511", meets(0x40000, 0x80000, True)),
+    ("load 0-0x7FFFF", meets(0, 0x80000, False)),
+    ("load 0xFFFFD8", meets(0xFFFFD8, 0xFFFFDC, False)),
+    ("change 0-0xFFFFF", changes(0, 1 << 20)),
+    ("change 0-0xFFFFF mask 1", changes(0, 1 << 20, 1)),
+    ("change Mem[040000]", changes(0x40000, 0x40004)),
+    ("R3=0", becomes(lambda it: it.registers[3], 0)),
+    ("R0=0xFFFFFFFF", becomes(lambda it: it.registers[0], 0xFFFFFFFF)),
+    ("R1=-64", becomes(lambda it: it.registers[1], 0xFFFFFFC0)),
+    ("H=0", becomes(lambda it: it.h, 0)),
+    ("flags=Z", becomes(lambda it: it.flags, 4)),
+    ("flags=N-C-", becomes(lambda it: it.flags, 10)),
+    ("flags=----", becomes(lambda it: it.flags, 0)),
+    ("LEDs=0x41", becomes(lambda it: it.leds, 0x41)),
+    ("switches=9", becomes(lambda it: it.switches, 9)),
+    ("serial=0x142", becomes(lambda it: it.serial, 0x142)),
+    ("serial=0x42", becomes(lambda it: it.serial, 0x42)),
+    ("mouse=7", becomes(lambda it: it.mouse, 7)),
+    ("sent", lambda it: bool(it.after.output)),
+    ("sent 0x41", lambda it: it.after.output == b"A"),
+    ("sent 66", lambda it: it.after.output == b"B"),
+    ("input key", takes(4)),
+    ("input", takes(1, 2, 3, 4, 5)),
+    ("input=timer", takes(1)),
+    ("input serial", takes(5)),
     ("stop", lambda it: it.after.stop > 0),
 )
 
@@ -106,16 +145,43 @@ class ConditionsTest(ToolTest):
 
     def test_they_are_those_of_programs(self) -> None:
         """R2 := 40000H, and a loop that sends, lights, reads the devices, divides and multiplies; then random instructions."""
-        loop = (0x5100FFC0, 0x62000004, 0x40080041, 0xA0100008, 0xA0100004, 0xA0200190, 0xA0200000, 0xB0200001,
-                0x83100008, 0x84100018, 0x8510001C, 0x43000001, 0x43390001, 0x40000000, 0x40F8FFFF, 0x442B0007, 0x440A0000, 0xE7FFFFF0)
-        inputs = sorted((at, kind, value) for at, kind, value in (
-            *((at, "key", 0x42) for at in range(5, 300, 31)), *((at, "serial", 0x42) for at in range(9, 300, 40)),
-            *((at, "switches", at % 10) for at in range(9, 300, 10)), (50, "mouse", 7), (90, "timer", 7)))
+        loop = (
+            0x5100FFC0,
+            0x62000004,
+            0x40080041,
+            0xA0100008,
+            0xA0100004,
+            0xA0200190,
+            0xA0200000,
+            0xB0200001,
+            0x83100008,
+            0x84100018,
+            0x8510001C,
+            0x43000001,
+            0x43390001,
+            0x40000000,
+            0x40F8FFFF,
+            0x442B0007,
+            0x440A0000,
+            0xE7FFFFF0,
+        )
+        inputs = sorted(
+            (at, kind, value)
+            for at, kind, value in (
+                *((at, "key", 0x42) for at in range(5, 300, 31)),
+                *((at, "serial", 0x42) for at in range(9, 300, 40)),
+                *((at, "switches", at % 10) for at in range(9, 300, 10)),
+                (50, "mouse", 7),
+                (90, "timer", 7),
+            )
+        )
         held = self.assert_found(record(session(loop, [100, 101, 200, 333], inputs)), 333)
         held |= self.assert_found(record(session(SENDING, [9, 40])), 40, 3)
         source = random.Random(5)
         for _ in range(3):
-            words = [source.choice((0, 0x40000000, 0x80000000, 0xA0000000)) | source.getrandbits(28) & 0xF7F70FFF for _ in range(250)]
+            words = [
+                source.choice((0, 0x40000000, 0x80000000, 0xA0000000)) | source.getrandbits(28) & 0xF7F70FFF for _ in range(250)
+            ]
             words = [word & ~0x80000 if word >> 31 == 0 and word >> 18 & 3 == 3 else word for word in words]
             start = {"R": [source.getrandbits(19) for _ in range(16)], "H": 0, "PC": 0, "flags": 0, "rate": 3, "phase": 0}
             held |= self.assert_found(record({**session(words, [7, 60, 240]), "version": 2, "start": start}), 240)
@@ -133,7 +199,14 @@ class ConditionsTest(ToolTest):
     def test_a_dot_is_a_bit_of_its_word(self) -> None:
         draws = (0x6D00000E, 0x4DD67F00, 0x40000005, 0xA0D00084, JUMP)
         made = self.file("it.orsr", record(session(draws, [20])))
-        for dot, count in (("dot 32,1", 3), ("dot 33,1", None), ("dot 34,1", 3), ("dot 35,1", None), ("dot 64,1", None), ("dot 32,0", None)):
+        for dot, count in (
+            ("dot 32,1", 3),
+            ("dot 33,1", None),
+            ("dot 34,1", 3),
+            ("dot 35,1", None),
+            ("dot 64,1", None),
+            ("dot 32,0", None),
+        ):
             ran = tool("find", made, "change", *dot.split())
             self.assertEqual((ran.output.split()[:1], ran.status), ([str(count).encode()], 0) if count else ([], 1), dot)
         self.assertEqual(tool("find", made, "store", "dot", "33,1").status, 0)
@@ -147,7 +220,9 @@ class ConditionsTest(ToolTest):
         for name in ("switches", "mouse", "serial"):
             taken, *rest = WRITTEN[name]
             for words in (["input", f"{name}=3"], [f"input {name} = 3"], ["input", f"{name}=0x3"]):
-                self.assertEqual([it.text for it in conditions_of(words)], ["input", words[-1].removeprefix("input ").replace(" ", "")], words)
+                self.assertEqual(
+                    [it.text for it in conditions_of(words)], ["input", words[-1].removeprefix("input ").replace(" ", "")], words
+                )
                 self.assertEqual([len(it.raws) for it in conditions_of(words)], [5, 1 + len(rest)], words)
             for words in (["input", name, f"{name}=3"], [f"input={name}", f"{name}=3"]):
                 self.assertEqual([it.raws for it in conditions_of(words)], [(taken,), WRITTEN[name]], words)
@@ -181,20 +256,30 @@ class FindTest(ToolTest):
 
     def test_the_first_the_last_and_all_are_shown_as_a_trace_shows_them(self) -> None:
         made = self.file("it.orsr", record(session(COUNTING, [40, 100], [(80, "key", 65)])))
-        self.assertEqual(self.found(made, "store", 400), ["         1       1  A0200190  STR R0, R2, 400         Mem[000190] 00000000 → 00000001"])
-        self.assertEqual(self.found(made, "store", 400, "--last"),
-                         ["        97       1  A0200190  STR R0, R2, 400         Mem[000190] 00000020 → 00000021"])
+        self.assertEqual(
+            self.found(made, "store", 400),
+            ["         1       1  A0200190  STR R0, R2, 400         Mem[000190] 00000000 → 00000001"],
+        )
+        self.assertEqual(
+            self.found(made, "store", 400, "--last"),
+            ["        97       1  A0200190  STR R0, R2, 400         Mem[000190] 00000020 → 00000021"],
+        )
         self.assertEqual([int(line.split()[0]) for line in self.found(made, "store", 400, "--all")], [*range(1, 100, 3)])
         self.assertEqual([int(line.split()[0]) for line in self.found(made, "store", 400, "--all", "--from", 5, "--to", 10)], [7])
         shown = self.found(made, "input", "key")
-        self.assertEqual(shown, ["        80  input   key 41 (A)", "        80       2  E7FFFFFD  B -3                    PC 2 → 0; keys none → 41"])
+        self.assertEqual(
+            shown,
+            ["        80  input   key 41 (A)", "        80       2  E7FFFFFD  B -3                    PC 2 → 0; keys none → 41"],
+        )
         self.assertEqual(shown, tool("trace", made, "--until", "input", "key", "--steps", 1).output.decode().splitlines())
 
     def test_what_is_more_than_is_printed_is_told(self) -> None:
         made = self.file("it.orsr", record(session(COUNTING, [4000])))
         ran = tool("find", made, "--all", "PC=1", "--most", 3)
         self.assertEqual([line.split()[0] for line in ran.output.splitlines()], [b"1", b"4", b"7"])
-        self.assertEqual((ran.errors, ran.status), ("galluspa find: printed the first 3: use --most N for more, or --from 10 to go on\n", 0))
+        self.assertEqual(
+            (ran.errors, ran.status), ("galluspa find: printed the first 3: use --most N for more, or --from 10 to go on\n", 0)
+        )
         self.assertEqual(len(tool("find", made, "--all", "PC=1").output.splitlines()), 1000)
         self.assertEqual(len(self.found(made, "--all", "PC=1", "--most", KEPT + 1, "-j", 2)), 1333)
 
@@ -244,13 +329,17 @@ class FindTest(ToolTest):
 
     def test_what_there_is_no_time_for_is_told(self) -> None:
         for words, told in (
-            ("R5=9", r"no R5=9 in 0\.\.\d+"), ("--last R5=9 -j 1", "searched nothing yet"),
-            ("--last R5=9 -j 4", "searched nothing yet"), (f"--all R0=9 --to {1 << 33}", r"searched 0\.\.\d{7,}"),
+            ("R5=9", r"no R5=9 in 0\.\.\d+"),
+            ("--last R5=9 -j 1", "searched nothing yet"),
+            ("--last R5=9 -j 4", "searched nothing yet"),
+            (f"--all R0=9 --to {1 << 33}", r"searched 0\.\.\d{7,}"),
             ("--all R0=9 -j 4", r"searched 0\.\.\d{7,}"),
         ):
             ran = tool("find", *self.endless(), *words.split(), "--limit", 2)
             self.assertRegex(ran.errors, rf"^galluspa find: no answer in 2 s: {told}\n$")
-            self.assertEqual((ran.status, [line.split()[0] for line in ran.output.splitlines()]), (3, [b"24"] if "--all" in words else []))
+            self.assertEqual(
+                (ran.status, [line.split()[0] for line in ran.output.splitlines()]), (3, [b"24"] if "--all" in words else [])
+            )
 
     def test_how_far_a_search_came(self) -> None:
         run = run_of(record(session(COUNTING, [10, 20, 30])))
@@ -288,15 +377,31 @@ class FindTest(ToolTest):
     def test_devices_have_names(self) -> None:
         keys = self.file("keys.orsr", record((EXAMPLES / "keys.json").read_bytes()))
         found = {}
-        for name, below in (("KEY", 36), ("mouse", 40), ("STATUS", 52), ("Serial", 56), ("LEDS", 60), ("switches", 60), ("TIMER", 64)):
+        for name, below in (
+            ("KEY", 36),
+            ("mouse", 40),
+            ("STATUS", 52),
+            ("Serial", 56),
+            ("LEDS", 60),
+            ("switches", 60),
+            ("TIMER", 64),
+        ):
             for kind in ("load", "store"):
                 named = tool("find", "--all", keys, kind, name)
                 for text in (f"-{below}", hex((1 << 24) - below), str((1 << 24) - below)):
                     ran = tool("find", "--all", keys, kind, text)
                     self.assertEqual((ran.output, ran.status), (named.output, named.status), name)
                 found[kind, name] = len(named.output.splitlines())
-        self.assertEqual({it: number for it, number in found.items() if number}, {
-            ("load", "KEY"): 3, ("load", "mouse"): found["load", "mouse"], ("store", "Serial"): 3, ("store", "LEDS"): 3, ("store", "switches"): 3})
+        self.assertEqual(
+            {it: number for it, number in found.items() if number},
+            {
+                ("load", "KEY"): 3,
+                ("load", "mouse"): found["load", "mouse"],
+                ("store", "Serial"): 3,
+                ("store", "LEDS"): 3,
+                ("store", "switches"): 3,
+            },
+        )
         lines = self.file("lines.orsr", record((EXAMPLES / "lines.json").read_bytes()))
         display = tool("find", lines, "--last", "store", "DISPLAY-0xF87FF")
         self.assertEqual((display.output, display.status), (tool("find", lines, "--last", "store", "0xE7F00-0xF87FF").output, 0))
@@ -319,10 +424,16 @@ class FindTest(ToolTest):
         self.assert_refused(tool("find", self.folder / "none", "stop"), "No such file")
         self.assert_refused(tool("find", self.file("short.orsr", STORED[:-1]), "stop"), "refused 1 short at byte 9503")
         for words, told in (
-            ("--from 101", "--from 101 is after the last checkpoint, which is at 100"), ("--to 101", "--to 101 is after the last checkpoint, which is at 100"),
-            ("--from 5 --to 5", "--to 5 must come after --from 5"), ("--from 100", "--from 100 is at the last checkpoint: give an earlier count"),
-            ("--from 6 --to 5", "--to 5 must come after --from 6"), ("--most 5", "use --most with --all"), ("--last --all", "not allowed with"),
-            ("-j 0", "'0' is not a whole number from 1 to 64"), ("-j 65", "'65' is not a whole number"), ("--library none", "no library at none"),
+            ("--from 101", "--from 101 is after the last checkpoint, which is at 100"),
+            ("--to 101", "--to 101 is after the last checkpoint, which is at 100"),
+            ("--from 5 --to 5", "--to 5 must come after --from 5"),
+            ("--from 100", "--from 100 is at the last checkpoint: give an earlier count"),
+            ("--from 6 --to 5", "--to 5 must come after --from 6"),
+            ("--most 5", "use --most with --all"),
+            ("--last --all", "not allowed with"),
+            ("-j 0", "'0' is not a whole number from 1 to 64"),
+            ("-j 65", "'65' is not a whole number"),
+            ("--library none", "no library at none"),
         ):
             self.assert_refused(tool("find", stored, "stop", *words.split()), told)
         for words, told in REFUSED:
@@ -332,29 +443,63 @@ class FindTest(ToolTest):
 PROGRAMS_NAME = "not a number, and there is no symbol file: --symbols FILE gives names to addresses, and galluspa assemble FILE --symbols NAME.sym"
 # Conditions that are none, and what is told of them.
 REFUSED: Sequence[tuple[str, str]] = (
-    ("R16=1", "R16: expected PC=N; store, load or change with a PLACE; NAME=VALUE"), ("stops", "stops: expected PC=N"), ("timer=5", "timer: expected PC=N"),
-    ("R1=", "R1: expected a number, decimal or hexadecimal with 0x in front"), ("R1", "R1: expected a number"), ("r1=x", "r1 x: expected a number"),
-    ("store", "store: expected a PLACE: an address or FIRST-LAST, a device such as KEY, page N, or dot X,Y; a number is decimal"), ("change", "change: expected a PLACE"),
-    ("PC=", "PC: expected a number"), ("PC=5-", "PC 5-: expected a number"), ("5-x", "5-x: expected PC=N"), ("store E7F00", "store E7F00: write 0xE7F00: numbers are decimal, or have 0x in front"),
-    ("load 0FFFFDCH", "load 0FFFFDCH: write 0xFFFFDC: numbers"), ("load $FFDC", "load $FFDC: write 0xFFDC: numbers"), ("PC=1fH", "PC 1fH: write 0x1f"),
-    ("PC=handle", f"PC handle: handle is {PROGRAMS_NAME}"), ("store handle", f"store handle: handle is {PROGRAMS_NAME}"), ("PC=KEY", "KEY is not a number, and"),
-    ("load -65", "load -65: expected a PLACE"), ("load -0", "load -0: expected a PLACE"), ("change KEY", "change KEY: an address is below 100000 (hexadecimal)"),
-    ("sent k", "sent k: expected a byte as its number, which is 107"), ("sent 'k'", "sent 'k': expected a byte as its number, which is 107"),
-    ("sent H", "sent H: expected a byte as its number, which is 72, or H=VALUE for the register"), ("sent h stop", "sent h: expected a byte as its number, which is 104, or h=VALUE"),
-    ("sent H=x", "sent H: expected a byte as its number, which is 72, or H=VALUE"), ("sent 'H' 5", "sent 'H': expected a byte as its number, which is 72"),
-    ("store page x", "store page x: expected a number"), ("sent stop R1", "R1: expected a number"),
-    ("input pen", "input pen: expected input alone, or with one of timer, switches, mouse, key, serial"), ("input stop pen", "pen: expected PC=N"),
+    ("R16=1", "R16: expected PC=N; store, load or change with a PLACE; NAME=VALUE"),
+    ("stops", "stops: expected PC=N"),
+    ("timer=5", "timer: expected PC=N"),
+    ("R1=", "R1: expected a number, decimal or hexadecimal with 0x in front"),
+    ("R1", "R1: expected a number"),
+    ("r1=x", "r1 x: expected a number"),
+    ("store", "store: expected a PLACE: an address or FIRST-LAST, a device such as KEY, page N, or dot X,Y; a number is decimal"),
+    ("change", "change: expected a PLACE"),
+    ("PC=", "PC: expected a number"),
+    ("PC=5-", "PC 5-: expected a number"),
+    ("5-x", "5-x: expected PC=N"),
+    ("store E7F00", "store E7F00: write 0xE7F00: numbers are decimal, or have 0x in front"),
+    ("load 0FFFFDCH", "load 0FFFFDCH: write 0xFFFFDC: numbers"),
+    ("load $FFDC", "load $FFDC: write 0xFFDC: numbers"),
+    ("PC=1fH", "PC 1fH: write 0x1f"),
+    ("PC=handle", f"PC handle: handle is {PROGRAMS_NAME}"),
+    ("store handle", f"store handle: handle is {PROGRAMS_NAME}"),
+    ("PC=KEY", "KEY is not a number, and"),
+    ("load -65", "load -65: expected a PLACE"),
+    ("load -0", "load -0: expected a PLACE"),
+    ("change KEY", "change KEY: an address is below 100000 (hexadecimal)"),
+    ("sent k", "sent k: expected a byte as its number, which is 107"),
+    ("sent 'k'", "sent 'k': expected a byte as its number, which is 107"),
+    ("sent H", "sent H: expected a byte as its number, which is 72, or H=VALUE for the register"),
+    ("sent h stop", "sent h: expected a byte as its number, which is 104, or h=VALUE"),
+    ("sent H=x", "sent H: expected a byte as its number, which is 72, or H=VALUE"),
+    ("sent 'H' 5", "sent 'H': expected a byte as its number, which is 72"),
+    ("store page x", "store page x: expected a number"),
+    ("sent stop R1", "R1: expected a number"),
+    ("input pen", "input pen: expected input alone, or with one of timer, switches, mouse, key, serial"),
+    ("input stop pen", "pen: expected PC=N"),
     ("PC=4194304", "PC 4194304: a PC is below 4,194,304 (400000 hexadecimal)"),
-    ("0x400000", "0x400000: a PC is below"), ("PC=5-3", "PC 5-3: nothing is from 5 to 3"), ("store 9-7", "store 9-7: nothing is from 9 to 7"),
-    ("R1=-0x80000001", "R1 can have no bit but"), ("LEDs=-1", "LEDs can have no bit but"), ("R1=-", "R1 -: expected a number"),
-    ("R1=0x100000000", "R1 can have no bit but those of FFFFFFFF (hexadecimal)"), ("flags=16", "flags can have no bit but those of F "),
-    ("flags=X", "flags X: expected a number, decimal or hexadecimal with 0x in front, or letters of NZCV"), ("LEDs=256", "LEDs can have no bit but those of FF "), ("mouse=0x400", "mouse can have no bit but"),
+    ("0x400000", "0x400000: a PC is below"),
+    ("PC=5-3", "PC 5-3: nothing is from 5 to 3"),
+    ("store 9-7", "store 9-7: nothing is from 9 to 7"),
+    ("R1=-0x80000001", "R1 can have no bit but"),
+    ("LEDs=-1", "LEDs can have no bit but"),
+    ("R1=-", "R1 -: expected a number"),
+    ("R1=0x100000000", "R1 can have no bit but those of FFFFFFFF (hexadecimal)"),
+    ("flags=16", "flags can have no bit but those of F "),
+    ("flags=X", "flags X: expected a number, decimal or hexadecimal with 0x in front, or letters of NZCV"),
+    ("LEDs=256", "LEDs can have no bit but those of FF "),
+    ("mouse=0x400", "mouse can have no bit but"),
     ("store 0x100000", "store 0x100000: an address is below 100000, or is that of a device, from FFFFC0 on (hexadecimal)"),
-    ("load 0xFFFFC-0x100000", "an address is below 100000, or is that of a device"), ("store 0x1000000", "an address is below 16,777,216"),
-    ("change 0xFFFFC4", "change 0xFFFFC4: an address is below 100000 (hexadecimal)"), ("store page 1024", "a page is below 1,024"),
-    ("store dot 1024,0", "expected dot X,Y, with X below 1024 and Y below 768"), ("store dot 0,768", "expected dot X,Y"), ("store dot 5", "expected dot X,Y"),
-    ("change 4 mask 0", "expected a mask from 1 to FFFFFFFF"), ("change 4 mask", "expected a mask"), ("change 4 mask 0x100000000", "expected a mask"),
-    ("sent 256", "sent 256: a byte is at most FF (hexadecimal)"), ("store Mem[xyz]", "store Mem[xyz]: expected"), ("=", "=: expected PC=N"),
+    ("load 0xFFFFC-0x100000", "an address is below 100000, or is that of a device"),
+    ("store 0x1000000", "an address is below 16,777,216"),
+    ("change 0xFFFFC4", "change 0xFFFFC4: an address is below 100000 (hexadecimal)"),
+    ("store page 1024", "a page is below 1,024"),
+    ("store dot 1024,0", "expected dot X,Y, with X below 1024 and Y below 768"),
+    ("store dot 0,768", "expected dot X,Y"),
+    ("store dot 5", "expected dot X,Y"),
+    ("change 4 mask 0", "expected a mask from 1 to FFFFFFFF"),
+    ("change 4 mask", "expected a mask"),
+    ("change 4 mask 0x100000000", "expected a mask"),
+    ("sent 256", "sent 256: a byte is at most FF (hexadecimal)"),
+    ("store Mem[xyz]", "store Mem[xyz]: expected"),
+    ("=", "=: expected PC=N"),
 )
 
 

@@ -36,7 +36,9 @@ class InterfaceTest(ToolTest):
                 if number + 1 < len(claims):
                     after = claims[number + 1]
                     self.assertEqual(machine.advance(after.count), after.output)
-                    self.assertEqual((machine.count, machine.state.registers, machine.state.pc), (after.count, after.registers, after.pc))
+                    self.assertEqual(
+                        (machine.count, machine.state.registers, machine.state.pc), (after.count, after.registers, after.pc)
+                    )
 
     def test_it_finds_what_the_tool_finds(self) -> None:
         path = self.file("face.orsr", FACE)
@@ -59,8 +61,10 @@ class InterfaceTest(ToolTest):
         self.assertEqual([it.registers[0] for it in states], [(count + 1) // 2 for count in range(301)])
         self.assertEqual([it.keys for it in states[19:22]], [b"", b"", b"A"])
         machine = galluspa.Machine.claim(text)
-        self.assertEqual([(it.count, it.registers) for it in machine.states(100, every=30)],
-                         [(states[at].count, states[at].registers) for at in (0, 30, 60, 90, 100)])
+        self.assertEqual(
+            [(it.count, it.registers) for it in machine.states(100, every=30)],
+            [(states[at].count, states[at].registers) for at in (0, 30, 60, 90, 100)],
+        )
         self.assertEqual(list(machine.states(100)), list(machine.states(50, every=7)))
         steps = list(machine.copy().steps(103))
         self.assertEqual([(it.word, it.before.count) for it in steps], [(COUNTING[count % 2], count) for count in (100, 101, 102)])
@@ -96,6 +100,8 @@ class InterfaceTest(ToolTest):
         self.assertEqual(galluspa.Machine.claim(STORED, library=library).count, 0)
 
     def test_it_imports_little_until_it_is_used(self) -> None:
-        script = "import galluspa, sys; print(sorted(it for it in sys.modules if it.startswith('galluspa')), 'argparse' in sys.modules)"
+        script = (
+            "import galluspa, sys; print(sorted(it for it in sys.modules if it.startswith('galluspa')), 'argparse' in sys.modules)"
+        )
         ran = run([sys.executable, "-B", "-c", script], env={**os.environ, "PYTHONPATH": str(TOOLS)})
         self.assertEqual(ran.output, b"['galluspa'] False\n")

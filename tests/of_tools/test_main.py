@@ -34,9 +34,11 @@ class MainTest(ToolTest):
             self.assert_refused(ran, f"galluspa {it.name}: ", f"(see galluspa {it.name} --help)")
 
     def test_a_subcommand_imports_no_other(self) -> None:
-        script = ("import sys; from galluspa.commands import main\n"
-                  "try: main(['output', '--help'])\nexcept SystemExit: pass\n"
-                  "print([it for it in sys.modules if it.startswith('galluspa.commands.')], 'ctypes' in sys.modules)")
+        script = (
+            "import sys; from galluspa.commands import main\n"
+            "try: main(['output', '--help'])\nexcept SystemExit: pass\n"
+            "print([it for it in sys.modules if it.startswith('galluspa.commands.')], 'ctypes' in sys.modules)"
+        )
         ran = run([sys.executable, "-B", "-c", script], env={**os.environ, "PYTHONPATH": str(TOOLS)})
         self.assertEqual(ran.output.decode().splitlines()[-1], "['galluspa.commands.output'] False")
 
@@ -57,9 +59,14 @@ class MainTest(ToolTest):
             self.assertEqual((ran.output, ran.status), (alone.output, alone.status))
             self.assertEqual(tool("check", "--workers", 1, path).output, alone.output)
         for ran in (galluspa(FACE, false, short), tool("check", FACE, "--cut", 2, false, "--workers", 2, short)):
-            self.assertEqual(ran.output.decode().splitlines(), [
-                f"{FACE}: accepted 4 checkpoints 20000000 steps", f"{false}: false checkpoint 1 at 2 part R5",
-                f"{short}: refused 1 short at byte 9503"])
+            self.assertEqual(
+                ran.output.decode().splitlines(),
+                [
+                    f"{FACE}: accepted 4 checkpoints 20000000 steps",
+                    f"{false}: false checkpoint 1 at 2 part R5",
+                    f"{short}: refused 1 short at byte 9503",
+                ],
+            )
             self.assertEqual(ran.status, 2)
 
     def test_explains_what_is_refused(self) -> None:
@@ -76,8 +83,9 @@ class MainTest(ToolTest):
         path = self.file("it.json", b'{"format": 1}')
         ran = tool("record", path)
         self.assertEqual((ran.output, ran.status), (b"session refused 2 shape\n", 2))
-        self.assertTrue(ran.errors.startswith(
-            "galluspa record: the session lacks version\ngalluspa record: rule   the session has exactly "))
+        self.assertTrue(
+            ran.errors.startswith("galluspa record: the session lacks version\ngalluspa record: rule   the session has exactly ")
+        )
         for name, text, told in (
             ("it.asm", (EXAMPLES / "keys.asm").read_bytes(), "galluspa record: a source: galluspa assemble "),
             ("it.orsr", STORED, f"galluspa record: a recording already: galluspa {self.folder / 'it.orsr'} checks it"),
@@ -88,12 +96,17 @@ class MainTest(ToolTest):
             self.assertIn(told, ran.errors)
         ran = tool("check", "--workers", 99, FACE)
         self.assertEqual((ran.output, ran.status), (b"words refused\n", 4))
-        self.assertEqual(ran.errors, "galluspa check: the program refuses the arguments check --workers 99 (see galluspa check --help)\n")
+        self.assertEqual(
+            ran.errors, "galluspa check: the program refuses the arguments check --workers 99 (see galluspa check --help)\n"
+        )
 
     def test_the_commands_are_those_of_the_program(self) -> None:
         keys, stored = EXAMPLES / "keys.json", self.file("stored.orsr", STORED)
         for words, path in (
-            (["record"], keys), (["screen", "--at", "1"], stored), (["screen", "--at", "9"], stored), (["migrate"], stored),
+            (["record"], keys),
+            (["screen", "--at", "1"], stored),
+            (["screen", "--at", "9"], stored),
+            (["migrate"], stored),
         ):
             alone = run([PROGRAM, *words], path.read_bytes())
             for ran in (galluspa(*words, path), run([GALLUSPA, *words], path.read_bytes())):

@@ -17,8 +17,15 @@ from of_tools.debian import install
 from of_tools.samples import EXAMPLES, PROGRAM, STORED, TOP, Ran, ToolTest, group, record, rejoining, run, tool
 
 ACCOUNTS = {"one.example": "galluspa-one", "two.example": "galluspa-two"}
-COMMANDS = {"sshd": "openssh-server", "rsync": "rsync", "munged": "munge", "slurmctld": "slurmctld", "slurmd": "slurmd",
-            "sbatch": "slurm-client", "make": "make"}
+COMMANDS = {
+    "sshd": "openssh-server",
+    "rsync": "rsync",
+    "munged": "munge",
+    "slurmctld": "slurmctld",
+    "slurmd": "slurmd",
+    "sbatch": "slurm-client",
+    "make": "make",
+}
 SECONDS = 60
 FOUND = f"{os.environ['PATH']}:/usr/sbin:/sbin"
 QUIET: dict[str, Any] = {"stdout": subprocess.DEVNULL, "stderr": subprocess.DEVNULL, "stdin": subprocess.DEVNULL}
@@ -43,8 +50,9 @@ class RecipesTest(ToolTest):
         self.folder.chmod(0o755)
         # The program; each of its checks is killed while there is a file `kill`.
         self.file("bin/program", PROGRAM.read_bytes()).chmod(0o755)
-        self.file("bin/oberon_replay", f'#!/bin/sh\n[ -e {self.folder}/kill ] && kill -9 $$\n'
-                  f'exec {self.folder}/bin/program "$@"\n').chmod(0o755)
+        self.file(
+            "bin/oberon_replay", f"#!/bin/sh\n[ -e {self.folder}/kill ] && kill -9 $$\n" f'exec {self.folder}/bin/program "$@"\n'
+        ).chmod(0o755)
         for part in ("tools", "crates"):
             (self.folder / part).symlink_to(TOP / part)
         for name in ("keys", "hello", "flags", "clock"):
@@ -74,8 +82,11 @@ class RecipesTest(ToolTest):
     def environment(self) -> dict[str, str]:
         """Where the program, the servers' words and no bytecode are found."""
         return {
-            **os.environ, "PATH": f"{self.folder}/bin:{TOP}:{FOUND}", "PYTHONDONTWRITEBYTECODE": "1",
-            "SLURM_CONF": f"{self.folder}/slurm.conf", "PARALLEL_SSH": f"ssh -F {self.folder}/ssh_config",
+            **os.environ,
+            "PATH": f"{self.folder}/bin:{TOP}:{FOUND}",
+            "PYTHONDONTWRITEBYTECODE": "1",
+            "SLURM_CONF": f"{self.folder}/slurm.conf",
+            "PARALLEL_SSH": f"ssh -F {self.folder}/ssh_config",
         }
 
     def until(self, *words: str) -> None:
@@ -140,12 +151,20 @@ class ParallelTest(RecipesTest):
         for key in ("host", "user"):
             subprocess.run(["ssh-keygen", "-q", "-t", "ed25519", "-N", "", "-f", self.folder / key], check=True)
         self.file("authorized", (self.folder / "user.pub").read_bytes())
-        self.file("sshd_config", f"""ListenAddress 127.0.0.1:{port}
+        self.file(
+            "sshd_config",
+            f"""ListenAddress 127.0.0.1:{port}
             HostKey {self.folder}/host\nPidFile none\nAuthorizedKeysFile {self.folder}/authorized\nStrictModes no\nUsePAM no
-            PasswordAuthentication no\nAllowUsers {' '.join(ACCOUNTS.values())}\nSetEnv PATH={self.folder}/bin:/usr/bin:/bin\n""")
-        self.file("ssh_config", "".join(
-            f"Host {host}\nHostName 127.0.0.1\nPort {port}\nUser {name}\nIdentityFile {self.folder}/user\nIdentitiesOnly yes\n"
-            f"StrictHostKeyChecking no\nUserKnownHostsFile {self.folder}/known\nLogLevel ERROR\n" for host, name in ACCOUNTS.items()))
+            PasswordAuthentication no\nAllowUsers {' '.join(ACCOUNTS.values())}\nSetEnv PATH={self.folder}/bin:/usr/bin:/bin\n""",
+        )
+        self.file(
+            "ssh_config",
+            "".join(
+                f"Host {host}\nHostName 127.0.0.1\nPort {port}\nUser {name}\nIdentityFile {self.folder}/user\nIdentitiesOnly yes\n"
+                f"StrictHostKeyChecking no\nUserKnownHostsFile {self.folder}/known\nLogLevel ERROR\n"
+                for host, name in ACCOUNTS.items()
+            ),
+        )
         separate = Path("/run/sshd")
         if not separate.exists():
             separate.mkdir(0o755)
@@ -200,7 +219,9 @@ class SlurmTest(RecipesTest):
     def cluster(self) -> None:
         """A cluster of this machine alone."""
         host, it = socket.gethostname(), self.folder
-        self.file("slurm.conf", f"""ClusterName=recipes\nSlurmctldHost={host}(127.0.0.1)\nSlurmUser=root\nSlurmdUser=root
+        self.file(
+            "slurm.conf",
+            f"""ClusterName=recipes\nSlurmctldHost={host}(127.0.0.1)\nSlurmUser=root\nSlurmdUser=root
             AuthType=auth/munge\nAuthInfo=socket={it}/munge.socket\nCredType=cred/munge\nStateSaveLocation={it}/state
             SlurmdSpoolDir={it}/spool\nSlurmctldPidFile={it}/slurmctld.pid\nSlurmdPidFile={it}/slurmd.pid
             SlurmctldLogFile={it}/slurmctld.log\nSlurmdLogFile={it}/slurmd.log\nSlurmctldPort={free_port()}\nSlurmdPort={free_port()}
@@ -208,12 +229,23 @@ class SlurmTest(RecipesTest):
             CommunicationParameters=NoInAddrAny,NoCtldInAddrAny\nSelectType=select/cons_tres\nSelectTypeParameters=CR_CPU
             SchedulerType=sched/builtin\nSchedulerParameters=batch_sched_delay=0,sched_interval=1,sched_min_interval=0
             NodeName={host} NodeAddr=127.0.0.1 CPUs={os.cpu_count()} State=UNKNOWN
-            PartitionName=main Nodes=ALL Default=YES State=UP\n""".replace("            ", ""))
+            PartitionName=main Nodes=ALL Default=YES State=UP\n""".replace(
+                "            ", ""
+            ),
+        )
         for name in ("state", "spool"):
             (it / name).mkdir()
         self.file("munge.key", os.urandom(128)).chmod(0o600)
-        self.start("munged", "--foreground", "--force", f"--socket={it}/munge.socket", f"--key-file={it}/munge.key",
-                   f"--pid-file={it}/munged.pid", f"--log-file={it}/munged.log", f"--seed-file={it}/seed")
+        self.start(
+            "munged",
+            "--foreground",
+            "--force",
+            f"--socket={it}/munge.socket",
+            f"--key-file={it}/munge.key",
+            f"--pid-file={it}/munged.pid",
+            f"--log-file={it}/munged.log",
+            f"--seed-file={it}/seed",
+        )
         self.until("test", "-S", f"{it}/munge.socket")
         self.start("slurmctld", "-D")
         self.start("slurmd", "-D", "-N", host)
@@ -259,8 +291,11 @@ class MakeTest(RecipesTest):
     def test_names_that_make_cannot_read_are_refused(self) -> None:
         self.want("make")
         self.file("Makefile", recipe("make"))
-        for name, shown in (("with a space", "suite/with a space.orsr"), (";touch owned;\x1b[2J", "suite/?touch owned???2J.orsr"),
-                            ("$(shell touch owned)", "suite/??shell touch owned?.orsr")):
+        for name, shown in (
+            ("with a space", "suite/with a space.orsr"),
+            (";touch owned;\x1b[2J", "suite/?touch owned???2J.orsr"),
+            ("$(shell touch owned)", "suite/??shell touch owned?.orsr"),
+        ):
             path = self.file(f"suite/{name}.orsr", STORED)
             ran = self.make()
             self.assertEqual((ran.status, ran.output), (2, b""))

@@ -15,8 +15,21 @@ POOL = [page_of(0x40000005), bytes(1020) + bytes([1, 2, 3, 4])]
 EVENTS = [Event(7, 1, 0x11223344), Event(0x0102030405, 5, 0xFE)]
 CHECKPOINTS = [
     Checkpoint(
-        0, registers=tuple(range(0x100, 0x110)), h=0x01020304, pc=0x3FFFFE, flags=0b1010, stop=3, timer=0xDEADBEEF, rate=10,
-        phase=9, switches=0xABC, leds=0x5A, mouse=0x05155157, serial=0x141, keys=b"AB", table=table_of({0: 1, 1023: 2}),
+        0,
+        registers=tuple(range(0x100, 0x110)),
+        h=0x01020304,
+        pc=0x3FFFFE,
+        flags=0b1010,
+        stop=3,
+        timer=0xDEADBEEF,
+        rate=10,
+        phase=9,
+        switches=0xABC,
+        leds=0x5A,
+        mouse=0x05155157,
+        serial=0x141,
+        keys=b"AB",
+        table=table_of({0: 1, 1023: 2}),
     ),
     Checkpoint(0x1234, pc=2, stop=4, timer=1, rate=10, output=b"Hi!", table=table_of({0: 1, 1: 2, 1023: 2})),
 ]
@@ -39,9 +52,17 @@ TABLES = {
 GOLDEN = {
     version: bytes.fromhex(
         f"4f525352 0{version}000000 02000000 02000000 02000000 00000000"
-        + "05000040" + 1020 * "00" + 1020 * "00" + "01020304"
-        + "0700000000000000 01000000 44332211" + "0504030201000000 05000000 fe000000"
-        + FIXED_FIELDS[0] + tables[0] + FIXED_FIELDS[1] + tables[1] + "486921"
+        + "05000040"
+        + 1020 * "00"
+        + 1020 * "00"
+        + "01020304"
+        + "0700000000000000 01000000 44332211"
+        + "0504030201000000 05000000 fe000000"
+        + FIXED_FIELDS[0]
+        + tables[0]
+        + FIXED_FIELDS[1]
+        + tables[1]
+        + "486921"
     )
     for version, tables in TABLES.items()
 }
@@ -58,10 +79,18 @@ def some_claims(chance: random.Random) -> list[Checkpoint]:
     pages = {5: 1}
     for k in range(20):
         words = {name: chance.getrandbits(32) for name in STATE_WORDS}
-        claims.append(claim(
-            100 * k, pages, registers=tuple(chance.getrandbits(32) for _ in range(16)), **words, rate=10, phase=k % 10,
-            keys=bytes(range(1, chance.randrange(17) + 1)), output=bytes(range(k)),
-        ))
+        claims.append(
+            claim(
+                100 * k,
+                pages,
+                registers=tuple(chance.getrandbits(32) for _ in range(16)),
+                **words,
+                rate=10,
+                phase=k % 10,
+                keys=bytes(range(1, chance.randrange(17) + 1)),
+                output=bytes(range(k)),
+            )
+        )
         pages = {**pages, **{chance.randrange(PLACES): chance.randrange(5) for _ in range(3)}}
     return claims
 
@@ -100,7 +129,9 @@ class RecordingTest(unittest.TestCase):
         self.assert_reads(text, 2, claims, [])
 
     def test_what_the_program_wrote_is_written_again(self) -> None:
-        timed = session([0x5100FFC8, 0xA1100000, 0xE7FFFFFD], range(1, 40), [(3, "mouse", 0x73FF3FF), (9, "key", 65), (9, "serial", 66)])
+        timed = session(
+            [0x5100FFC8, 0xA1100000, 0xE7FFFFFD], range(1, 40), [(3, "mouse", 0x73FF3FF), (9, "key", 65), (9, "serial", 66)]
+        )
         timed["start"].update(rate=7, phase=6)
         for text in (
             (EXAMPLES / "face.orsr").read_bytes(),
@@ -117,8 +148,10 @@ class RecordingTest(unittest.TestCase):
         self.assertEqual(face.word(last, 0), 0x6D00000E)
         self.assertEqual(face.memory(last, 0, 8).hex(), "0e00006d007fd64d")
         self.assertEqual(len(face.memory(last, recording.DISPLAY_START, recording.DISPLAY_END)), 98304)
-        self.assertEqual(face.memory(last, 0, 1 << 20)[recording.DISPLAY_START:recording.DISPLAY_END],
-                         face.memory(last, recording.DISPLAY_START, recording.DISPLAY_END))
+        self.assertEqual(
+            face.memory(last, 0, 1 << 20)[recording.DISPLAY_START : recording.DISPLAY_END],
+            face.memory(last, recording.DISPLAY_START, recording.DISPLAY_END),
+        )
 
     def test_changed_slots_go_by_content(self) -> None:
         claims = [claim(k, pages) for k, pages in enumerate([{1: 1}, {1: 2}, {1: 3, 9: 1}])]

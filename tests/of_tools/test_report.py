@@ -23,7 +23,20 @@ from galluspa.program import Program
 from galluspa.recording import Event, page_of
 from of_tools import browser
 from of_tools.samples import (
-    EXAMPLES, JUMP, PROGRAM, STORED, ToolTest, claim, encoded, group, record, rejoining, run, session, status_of, tool,
+    EXAMPLES,
+    JUMP,
+    PROGRAM,
+    STORED,
+    ToolTest,
+    claim,
+    encoded,
+    group,
+    record,
+    rejoining,
+    run,
+    session,
+    status_of,
+    tool,
 )
 
 
@@ -46,6 +59,7 @@ DOTS = """
   return [document.images.length > 0 && document.images[0].naturalWidth, dots];
 })()
 """
+
 
 class ReportTest(ToolTest):
     def report(self, text: bytes, name: str = "it.orsr", *words: str) -> Path:
@@ -164,8 +178,12 @@ class SizeTest(ReportTest):
         late = replace(report, program=replace(report.program, limit=Limit(0)))
         page = "".join(late.html())
         over = "What the machine has was not found: no answer in 0 s: the machine came to count 0."
-        for told in (over, "false checkpoint 1 at 2 part R5</h1>",
-                     "it has 0 of the\n  1 different screens in full", "screen --at 0 &lt; it.orsr"):
+        for told in (
+            over,
+            "false checkpoint 1 at 2 part R5</h1>",
+            "it has 0 of the\n  1 different screens in full",
+            "screen --at 0 &lt; it.orsr",
+        ):
             self.assertIn(told, page)
         self.assertIn(over, list(late.plain()))
 
@@ -191,8 +209,20 @@ class ReportInBrowserTest(ReportTest):
 
     def test_nothing_overlaps_in_windows_of_any_width(self) -> None:
         wide = claim(
-            1000000, {0: 1, 1000: 2}, registers=(0xFFFFFFFF,) * 16, h=0xFFFFFFFF, pc=262143, flags=15, timer=0xFFFFFFFF,
-            rate=0xFFFFFFFF, phase=0xFFFFFFFE, switches=0xFFF, leds=0xFF, mouse=0x073FF3FF, serial=0x1FF, keys=b"A" * 16,
+            1000000,
+            {0: 1, 1000: 2},
+            registers=(0xFFFFFFFF,) * 16,
+            h=0xFFFFFFFF,
+            pc=262143,
+            flags=15,
+            timer=0xFFFFFFFF,
+            rate=0xFFFFFFFF,
+            phase=0xFFFFFFFE,
+            switches=0xFFF,
+            leds=0xFF,
+            mouse=0x073FF3FF,
+            serial=0x1FF,
+            keys=b"A" * 16,
             output=b"A" * 400,
         )
         widest = encoded(2, [page_of(JUMP), page_of(1)], [claim(0), wide], [Event(5, 3, 0x073FF3FF)])
@@ -250,8 +280,10 @@ class ReportInBrowserTest(ReportTest):
                 self.assertEqual(page.answer("document.querySelector('#line').textContent"), line)
                 page.answer("document.querySelector('#check-again').click()")
                 page.wait("document.querySelector('#again.same, #again.other')")
-                self.assertEqual(page.answer("document.querySelector('#again').textContent"),
-                                 f"Computed in this browser: {line}, the line of this report")
+                self.assertEqual(
+                    page.answer("document.querySelector('#again').textContent"),
+                    f"Computed in this browser: {line}, the line of this report",
+                )
                 for width in browser.WIDTHS:
                     page.resize(width, 1000)
                     shown: Any = page.answer("document.documentElement.scrollWidth")
@@ -301,8 +333,10 @@ class ReportInBrowserTest(ReportTest):
         with self.running.page(page_file) as page:
             page.answer("document.querySelector('#check-again').click()")
             page.wait("document.querySelector('#again.other')")
-            self.assertEqual(page.answer("document.querySelector('#again').textContent"),
-                             "Computed in this browser: false checkpoint 1 at 2 part R5")
+            self.assertEqual(
+                page.answer("document.querySelector('#again').textContent"),
+                "Computed in this browser: false checkpoint 1 at 2 part R5",
+            )
 
     def test_pictures_that_come_again_are_there_once(self) -> None:
         turn = (0x6100000E, 0x41167F00, 0x5000FFFF, 0xA0100000, 0x40000000, 0xA0100000, 0xE7FFFFFB)

@@ -76,10 +76,12 @@ class SessionTest(ToolTest):
     def test_warns_of_an_odd_program_counter(self) -> None:
         image = self.file("memory.bin", struct.pack("<2I", JUMP, 0))
         for words, told in (
-            ((), ""), (("--set", "PC=1"), "PC is 1 (it counts words), which is byte 4 (hexadecimal), and the word there is 0"),
+            ((), ""),
+            (("--set", "PC=1"), "PC is 1 (it counts words), which is byte 4 (hexadecimal), and the word there is 0"),
             (("--set", "PC=2"), "PC is 2 (it counts words), which is byte 8, outside the image of the bytes 0 to 7"),
             (("--at", "0x1000", "--set", "PC=0x1000"), "which is byte 4000, outside the image of the bytes 1000 to 1007"),
-            (("--at", "0x1000", "--set", "PC=0x400"), ""), (("--set", "PC=262144"), "PC is 262,144, beyond the memory"),
+            (("--at", "0x1000", "--set", "PC=0x400"), ""),
+            (("--set", "PC=262144"), "PC is 262,144, beyond the memory"),
         ):
             ran = tool("session", "--memory", image, "--checkpoints", 9, *words)
             self.assertEqual((ran.status, len(ran.errors.splitlines())), (0, bool(told)))
@@ -102,7 +104,11 @@ class SessionTest(ToolTest):
     def test_warns_of_a_byte_address(self) -> None:
         """One outside the image, one where there is 0, and one where there is something else than code."""
         code, text = (EXAMPLES / "keys.asm").read_text(), "\n    string " + ", ".join(['"This is a text. "'] * 9)
-        for lines, at, pc in ((code, 0x1000, 0x1000), (f"origin 16\n{code}\norigin 400\nword 1", 0, 16), (f"origin 16\n{code}{text}", 0, 16)):
+        for lines, at, pc in (
+            (code, 0x1000, 0x1000),
+            (f"origin 16\n{code}\norigin 400\nword 1", 0, 16),
+            (f"origin 16\n{code}{text}", 0, 16),
+        ):
             image = self.folder / "it.bin"
             ran = tool("assemble", self.file("it.asm", lines), "--image", image)
             self.assertEqual((ran.status, ran.errors), (0, ""))
@@ -124,7 +130,18 @@ class SessionTest(ToolTest):
         self.assert_refused(tool("session", "--memory", image, "--checkpoints", "5,x"), "'x'")
         self.assert_refused(tool("session", "--memory", image, "--at", "0xFFFFF", *every), "go beyond the memory")
         self.assert_refused(tool("session", "--memory", self.folder / "none", *every), "No such file")
-        for assignment in ("R16=0", "R1", "R1=", "R1=0x100000000", "PC=0x400000", "flags=X", "flags=16", "R1=-1", "R1=1_0", "rate=0x100000000"):
+        for assignment in (
+            "R16=0",
+            "R1",
+            "R1=",
+            "R1=0x100000000",
+            "PC=0x400000",
+            "flags=X",
+            "flags=16",
+            "R1=-1",
+            "R1=1_0",
+            "rate=0x100000000",
+        ):
             self.assert_refused(tool("session", "--memory", image, *every, "--set", assignment), f"--set {assignment}")
         for rate, phase in ((0, 1), (10, 10)):
             words = ["--set", f"rate={rate}", "--set", f"phase={phase}"]

@@ -110,8 +110,14 @@ class JoinTest(SlicesTest):
         self.assert_refused(tool("join", FACE, self.file("first.orsr", b"")), "name it I-J.orsr, after two checkpoints of ")
         other = self.file("other/0-1.orsr", pieces[1].read_bytes())
         self.assert_refused(tool("join", FACE, other), "not the slice of", "from checkpoint 0 to 1")
-        for line in ("accepted 1 checkpoints 3999999 steps", "accepted 2 checkpoints 4000000 steps", "no memory",
-                     "false checkpoint 2 at 4000000 part R5", "false checkpoint 1 at 3 part R5", "refused 1 short at byte 4"):
+        for line in (
+            "accepted 1 checkpoints 3999999 steps",
+            "accepted 2 checkpoints 4000000 steps",
+            "no memory",
+            "false checkpoint 2 at 4000000 part R5",
+            "false checkpoint 1 at 3 part R5",
+            "refused 1 short at byte 4",
+        ):
             self.file("0-1.line", line + "\n")
             self.assert_refused(tool("join", FACE, *pieces), "0-1.line: not a verdict line of 0-1.orsr")
         (self.folder / "0-1.line").unlink()

@@ -15,7 +15,21 @@ from xml.etree import ElementTree
 
 from galluspa.recording import page_of
 from of_tools.samples import (
-    EXAMPLES, GALLUSPA, JUMP, PROGRAM, STORED, Ran, ToolTest, claim, encoded, on_terminal, record, rejoining, run, session, tool,
+    EXAMPLES,
+    GALLUSPA,
+    JUMP,
+    PROGRAM,
+    STORED,
+    Ran,
+    ToolTest,
+    claim,
+    encoded,
+    on_terminal,
+    record,
+    rejoining,
+    run,
+    session,
+    tool,
 )
 
 FACE = EXAMPLES / "face.orsr"
@@ -38,11 +52,24 @@ class OutputTest(ToolTest):
         self.file("0-4.line", run([PROGRAM], FACE.read_bytes()).output)
         self.file("suite/a.orsr", STORED)
         return [
-            ["claim", FACE, "--at", 1, "--set", "R5=9"], ["coverage", self.folder / "suite"], ["explain", FACE],
-            ["diff", FACE, FACE], ["film", FACE], ["join", FACE, piece], ["listing", FACE], ["check", FACE], ["--version"],
-            ["record", EXAMPLES / "keys.json"], ["screen", "--at", 1, FACE], ["migrate", FACE],
-            ["output", self.file("hello.orsr", record((EXAMPLES / "hello.json").read_bytes()))], ["recording-of", live],
-            ["report", FACE], ["report", "--help"], ["session", "--of", FACE], ["slice", FACE, "--from", 1, "--to", 2],
+            ["claim", FACE, "--at", 1, "--set", "R5=9"],
+            ["coverage", self.folder / "suite"],
+            ["explain", FACE],
+            ["diff", FACE, FACE],
+            ["film", FACE],
+            ["join", FACE, piece],
+            ["listing", FACE],
+            ["check", FACE],
+            ["--version"],
+            ["record", EXAMPLES / "keys.json"],
+            ["screen", "--at", 1, FACE],
+            ["migrate", FACE],
+            ["output", self.file("hello.orsr", record((EXAMPLES / "hello.json").read_bytes()))],
+            ["recording-of", live],
+            ["report", FACE],
+            ["report", "--help"],
+            ["session", "--of", FACE],
+            ["slice", FACE, "--from", 1, "--to", 2],
             ["suite", self.folder / "suite"],
         ]
 
@@ -72,8 +99,13 @@ class OutputTest(ToolTest):
         kept = self.folder / "kept.json"
         ran = tool("suite", self.folder, "--junit", "/dev/full", "--keep", kept, "--page", self.folder / "none/page.html")
         self.assertEqual(ran.status, 2)
-        self.assertEqual(ran.errors.splitlines(), [
-            "galluspa suite: /dev/full: No space left on device", f"galluspa suite: {self.folder}/none/page.html: No such file or directory"])
+        self.assertEqual(
+            ran.errors.splitlines(),
+            [
+                "galluspa suite: /dev/full: No space left on device",
+                f"galluspa suite: {self.folder}/none/page.html: No such file or directory",
+            ],
+        )
         self.assertEqual(list(json.loads(kept.read_bytes())["recordings"]), ["a.orsr"])
         ran = tool("suite", self.folder, "--junit", "/dev/full")
         self.assertEqual((ran.status, ran.errors), (3, "galluspa suite: /dev/full: No space left on device\n"))
@@ -83,23 +115,48 @@ class OutputTest(ToolTest):
         self.addCleanup(os.close, reader)
         with open(terminal, "wb") as shown:
             ran = self.ended(["slice", FACE, "--from", 1, "--to", 2], shown)
-        self.assertEqual((ran.status, ran.errors), (2, "galluspa slice: the output is not text: write it into a file, with > FILE\n"))
+        self.assertEqual(
+            (ran.status, ran.errors), (2, "galluspa slice: the output is not text: write it into a file, with > FILE\n")
+        )
 
 
 class NamesTest(ToolTest):
     def test_no_tool_shows_a_name_raw(self) -> None:
         path = self.file(HOSTILE, rejoining(9))
         commands: list[list[object]] = [
-            ["claim", path, "--at", 9, "--set", "R5=9"], ["explain", path], ["join", path, path], ["listing", path],
-            ["check", path, path], [path, path], ["record", path], ["screen", "--at", 1, path, "-o", path / "none"],
-            ["migrate", path, "-o", path / "none"], [HOSTILE], ["help", HOSTILE], ["screen", "--at", HOSTILE, path],
-            ["check", "--workers", HOSTILE, path], ["recording-of", path], ["report", path], ["report", "--text", path],
+            ["claim", path, "--at", 9, "--set", "R5=9"],
+            ["explain", path],
+            ["join", path, path],
+            ["listing", path],
+            ["check", path, path],
+            [path, path],
+            ["record", path],
+            ["screen", "--at", 1, path, "-o", path / "none"],
+            ["migrate", path, "-o", path / "none"],
+            [HOSTILE],
+            ["help", HOSTILE],
+            ["screen", "--at", HOSTILE, path],
+            ["check", "--workers", HOSTILE, path],
+            ["recording-of", path],
+            ["report", path],
+            ["report", "--text", path],
             ["session", "--of", path],
-            ["session", "--memory", path, "--set", HOSTILE, "--every", 1, "--until", 1], ["slice", path, "--from", 1, "--to", 9],
-            ["suite", path], ["coverage", path], ["suite", self.folder], ["coverage", self.folder],
-            ["trace", path, "--until", HOSTILE], ["find", path, HOSTILE], ["find", path, "R5=9"], ["bisect", path, "--", HOSTILE, "{count}"],
-            ["package", "--into", path / "none", "--library", path], ["diff", path, path], ["diff", path, FACE], ["film", path, "-o", path.with_suffix(".png")],
-            ["output", path, "--at", 9], ["film", path, "-o", path / "none"],
+            ["session", "--memory", path, "--set", HOSTILE, "--every", 1, "--until", 1],
+            ["slice", path, "--from", 1, "--to", 9],
+            ["suite", path],
+            ["coverage", path],
+            ["suite", self.folder],
+            ["coverage", self.folder],
+            ["trace", path, "--until", HOSTILE],
+            ["find", path, HOSTILE],
+            ["find", path, "R5=9"],
+            ["bisect", path, "--", HOSTILE, "{count}"],
+            ["package", "--into", path / "none", "--library", path],
+            ["diff", path, path],
+            ["diff", path, FACE],
+            ["film", path, "-o", path.with_suffix(".png")],
+            ["output", path, "--at", 9],
+            ["film", path, "-o", path / "none"],
         ]
         self.assert_shown(commands)
         self.file(HOSTILE, b"{")
@@ -144,9 +201,12 @@ class NamesTest(ToolTest):
     def test_lines_that_no_program_prints_are_refused(self) -> None:
         face = self.file("0-4.orsr", FACE.read_bytes())
         for line in (
-            f"accepted {'1' * 5000} checkpoints 20000000 steps", f"accepted 4 checkpoints {'2' * 5000} steps",
-            f"false checkpoint {'1' * 5000} at 1 part R0", "false checkpoint 1 at 4000000 part \x1b[2J",
-            "false checkpoint 1 at 4000000 part page 1024", "false checkpoint 1 at 4000000 part R0\nR1",
+            f"accepted {'1' * 5000} checkpoints 20000000 steps",
+            f"accepted 4 checkpoints {'2' * 5000} steps",
+            f"false checkpoint {'1' * 5000} at 1 part R0",
+            "false checkpoint 1 at 4000000 part \x1b[2J",
+            "false checkpoint 1 at 4000000 part page 1024",
+            "false checkpoint 1 at 4000000 part R0\nR1",
             "accepted \u0664 checkpoints 20000000 steps",
         ):
             self.file("0-4.line", line + "\n")
@@ -174,13 +234,29 @@ class SuiteTest(ToolTest):
         self.file("suite/accepted", "accepted 1\n")
         (self.folder / "suite/g.expect").symlink_to("accepted")
         page, junit, kept = (self.folder / name for name in ("page.html", "it.xml", "kept.json"))
-        ran = tool("suite", self.folder / "suite", "--page", page, "--junit", junit, "--keep", kept, "--changed-since",
-                   self.file("before.json", '{"format": "galluspa-suite-run", "version": 1, "recordings": {}}'))
+        ran = tool(
+            "suite",
+            self.folder / "suite",
+            "--page",
+            page,
+            "--junit",
+            junit,
+            "--keep",
+            kept,
+            "--changed-since",
+            self.file("before.json", '{"format": "galluspa-suite-run", "version": 1, "recordings": {}}'),
+        )
         self.assertEqual((ran.status, ran.errors), (1, ""))
         told = ran.output.decode()
         self.assertEqual([line[:6] for line in told.splitlines() if " - " in line], ["ok 1 -", *["not ok"] * 5, "ok 7 -", "not ok"])
-        for why in ("b.expect: a link that leads out of the suite", "c.orsr: No such file or directory", "d.orsr: not a file",
-                    "e.expect: not a file", "h.expect: not a file", "f.expect: no line says what to expect"):
+        for why in (
+            "b.expect: a link that leads out of the suite",
+            "c.orsr: No such file or directory",
+            "d.orsr: not a file",
+            "e.expect: not a file",
+            "h.expect: not a file",
+            "f.expect: no line says what to expect",
+        ):
             self.assertIn(why, told)
         self.assertEqual(len(json.loads(kept.read_bytes())["recordings"]), 8)
         suite = ElementTree.parse(junit).getroot()[0]
@@ -249,8 +325,10 @@ class SessionCostTest(ToolTest):
 class TimeTest(ToolTest):
     def slow(self, seconds: float = 60) -> Path:
         """A program that answers late where it checks; the process by which it waits has a number in a file."""
-        script = self.file("slow", f"#!/bin/sh\n[ $1 = check ] && {{ sleep {seconds} & echo $! >> {self.folder}/pids; wait; }}\n"
-                           f"exec {PROGRAM} \"$@\"\n")
+        script = self.file(
+            "slow",
+            f"#!/bin/sh\n[ $1 = check ] && {{ sleep {seconds} & echo $! >> {self.folder}/pids; wait; }}\n" f'exec {PROGRAM} "$@"\n',
+        )
         script.chmod(0o755)
         return script
 
@@ -284,7 +362,7 @@ class TimeTest(ToolTest):
         self.assertEqual((ran.output, ran.errors, ran.status), (b"", "galluspa explain: no answer in 1 s\n", 3))
         self.file("suite/a.orsr", STORED)
         self.file("suite/b.orsr", record(session([JUMP], [1000])))
-        waiting = self.file("waiting", f"#!/bin/sh\n[ $1 = record ] && sleep 2\nexec {PROGRAM} \"$@\"\n")
+        waiting = self.file("waiting", f'#!/bin/sh\n[ $1 = record ] && sleep 2\nexec {PROGRAM} "$@"\n')
         waiting.chmod(0o755)
         ran = tool("coverage", self.folder / "suite", "--limit", 1, "--program", waiting)
         self.assertEqual((ran.status, ran.errors), (0, ""))
@@ -305,8 +383,9 @@ class TimeTest(ToolTest):
         self.file("suite/a.orsr", STORED)
         for at in range(9):
             self.file(f"suite/{at}.orsr", rejoining(at))
-        program = self.file("program", f"#!/bin/sh\ncd {self.folder}\ncat > it; cmp -s it suite/a.orsr && sleep 60\n"
-                            "echo false\nexit 1\n")
+        program = self.file(
+            "program", f"#!/bin/sh\ncd {self.folder}\ncat > it; cmp -s it suite/a.orsr && sleep 60\n" "echo false\nexit 1\n"
+        )
         program.chmod(0o755)
         start = time.monotonic()
         with open("/dev/full", "wb") as full:
@@ -320,7 +399,10 @@ class TimeTest(ToolTest):
         sends = encoded(2, [page_of(0x5100FFC8, 0xA0100000, 0xE7FFFFFE)], [claim(0), claim(1, output=b"x"), claim(1 << 40)])
         path = self.file("it.orsr", sends)
         trace: list[object] = ["trace", path, "--at", 0]
-        rows: list[tuple[int, int, list[object]]] = [(signal.SIGINT, 130, ["--from", 1 << 39]), (signal.SIGTERM, 143, ["--until", "stop"])]
+        rows: list[tuple[int, int, list[object]]] = [
+            (signal.SIGINT, 130, ["--from", 1 << 39]),
+            (signal.SIGTERM, 143, ["--until", "stop"]),
+        ]
         for number, status, words in rows:
             start = time.monotonic()
 

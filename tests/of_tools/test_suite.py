@@ -33,13 +33,16 @@ class SuiteTest(SuitesTest):
         ran = tool("suite", self.folder, "-j", 3)
         self.assertEqual(ran.status, 0)
         lines = ran.output.decode().splitlines()
-        self.assertEqual(lines[:5], [
-            "TAP version 13",
-            "1..3",
-            "ok 1 - a.orsr: accepted 1 checkpoints 100 steps",
-            "ok 2 - b/false.orsr: false checkpoint 1 at 2 part R5",
-            "ok 3 - c/short.orsr: refused 1 short at byte 9503",
-        ])
+        self.assertEqual(
+            lines[:5],
+            [
+                "TAP version 13",
+                "1..3",
+                "ok 1 - a.orsr: accepted 1 checkpoints 100 steps",
+                "ok 2 - b/false.orsr: false checkpoint 1 at 2 part R5",
+                "ok 3 - c/short.orsr: refused 1 short at byte 9503",
+            ],
+        )
         self.assertTrue(all(line.startswith("# ") and line.endswith(".orsr") for line in lines[5:]))
         self.assertEqual(len(lines), 8)
         self.assertEqual(ran.errors, "")
@@ -50,8 +53,9 @@ class SuiteTest(SuitesTest):
         ran = tool("suite", self.folder)
         self.assertEqual(ran.status, 1)
         self.assertIn(
-            'not ok 1 - a.orsr\n  ---\n  expected: "accepted 10"\n'
-            '  answered: "accepted 1 checkpoints 100 steps"\n  ...\n', ran.output.decode())
+            'not ok 1 - a.orsr\n  ---\n  expected: "accepted 10"\n' '  answered: "accepted 1 checkpoints 100 steps"\n  ...\n',
+            ran.output.decode(),
+        )
 
     def test_prove_reads_it(self) -> None:
         self.suite()
@@ -118,15 +122,18 @@ class EarlierRunTest(SuitesTest):
         recordings["a.orsr"].update(answered="accepted 1 checkpoints 99 steps", seconds=1000)
         recordings["b/false.orsr"].update(sha256="0" * 64, seconds=1000)
         recordings["gone.orsr"] = recordings.pop("c/short.orsr")
-        self.assertEqual(self.since(json.dumps(kept)), [
-            "# changed a.orsr: accepted 1 checkpoints 100 steps, was accepted 1 checkpoints 99 steps",
-            "# rewritten b/false.orsr: other bytes, the same answer",
-            "# new c/short.orsr: refused 1 short at byte 9503",
-            "# gone gone.orsr: refused 1 short at byte 9503",
-        ])
+        self.assertEqual(
+            self.since(json.dumps(kept)),
+            [
+                "# changed a.orsr: accepted 1 checkpoints 100 steps, was accepted 1 checkpoints 99 steps",
+                "# rewritten b/false.orsr: other bytes, the same answer",
+                "# new c/short.orsr: refused 1 short at byte 9503",
+                "# gone gone.orsr: refused 1 short at byte 9503",
+            ],
+        )
 
     def test_what_got_slower(self) -> None:
-        slow = self.file("slow", f"#!/bin/sh\nsleep 0.3\nexec {PROGRAM} \"$@\"\n")
+        slow = self.file("slow", f'#!/bin/sh\nsleep 0.3\nexec {PROGRAM} "$@"\n')
         slow.chmod(0o755)
         kept = self.kept()
         for recording in kept["recordings"].values():
@@ -138,9 +145,15 @@ class EarlierRunTest(SuitesTest):
 
     def test_refuses_what_is_no_run(self) -> None:
         self.suite()
-        for text in ("", "[]", "{}", '{"format": "galluspa-suite-run", "version": 2, "recordings": {}}',
-                     '{"format": "galluspa-suite-run", "version": 1, "recordings": {"a": {"answered": 1}}}',
-                     '{"format": "galluspa-suite-run", "version": 1, "recordings": []}', "[" * 100000):
+        for text in (
+            "",
+            "[]",
+            "{}",
+            '{"format": "galluspa-suite-run", "version": 2, "recordings": {}}',
+            '{"format": "galluspa-suite-run", "version": 1, "recordings": {"a": {"answered": 1}}}',
+            '{"format": "galluspa-suite-run", "version": 1, "recordings": []}',
+            "[" * 100000,
+        ):
             self.assert_refused(tool("suite", self.folder, "--changed-since", self.file("it.json", text)), "it.json: not a run")
         self.assert_refused(tool("suite", self.folder, "--changed-since", self.folder / "none"), "No such file")
 
@@ -162,7 +175,9 @@ class JUnitTest(SuitesTest):
         self.suite()
         for option in ("--junit", "--keep", "--page"):
             ran = tool("suite", self.folder, option, self.folder / "none/it")
-            self.assertEqual((ran.status, ran.errors.splitlines()), (2, [f"galluspa suite: {self.folder}/none/it: No such file or directory"]))
+            self.assertEqual(
+                (ran.status, ran.errors.splitlines()), (2, [f"galluspa suite: {self.folder}/none/it: No such file or directory"])
+            )
 
 
 class PageTest(SuitesTest):
@@ -212,4 +227,3 @@ class PageTest(SuitesTest):
         bare = ["/usr/bin/python3", "-B", "-S", GALLUSPA, "suite", self.folder]
         self.assertEqual(run(bare).status, 0)
         self.assert_refused(run([*bare, "--page", self.folder / "it.html"]), "apt-get install python3-pil python3-jinja2")
-

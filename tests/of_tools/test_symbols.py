@@ -38,19 +38,34 @@ NAMES = """
 0000002C l Dots.Mod:4
 """
 MISTAKES = (
-    ("zz t x", "zz is not an address of 1 to 16 hexadecimal digits"), ("         U printf", "U is not an address"),
-    (" 0 t x", "0 is not an address"), ("00000000000000000 t x", "is not an address"), ("-4 t x", "-4 is not an address"),
-    ("0 q x", "q is not a type"), ("0 U x", "U is not a type"), ("0", "expected ADDRESS TYPE NAME"), ("0 t", "expected ADDRESS TYPE NAME"),
-    ("0 t x y", "expected ADDRESS TYPE NAME"), ("0 t x\ty", "expected ADDRESS TYPE NAME"), ("0 t x\tfile:", "expected ADDRESS TYPE NAME"),
-    ("0 t x\tfile:0", "lines of a source are counted from 1"), ("0 l file", "expected ADDRESS l FILE:LINE"),
-    ("0 l file:0", "lines of a source are counted from 1"), ("2 l file:1", "the address 2 of code is not a multiple of 4"),
-    ("2 t x", "the address 2 of code is not a multiple of 4"), ("100000 t x", "the address 100000 is not below 100000 (hexadecimal)"),
-    ("1000000 d x", "the address 1000000 is not below 1000000"), ("100000000 a x", "the constant 100000000 is not below 100000000"),
-    ("ffffffffffffffff t x", "the address FFFFFFFFFFFFFFFF is not below 100000"), ("0 100001 t x", "the size 100001 leads beyond 100000"),
-    ("10 fffffff d x", "the size FFFFFFF leads beyond 1000000"), ("100000 l file:1", "the address 100000 is not below 100000"),
+    ("zz t x", "zz is not an address of 1 to 16 hexadecimal digits"),
+    ("         U printf", "U is not an address"),
+    (" 0 t x", "0 is not an address"),
+    ("00000000000000000 t x", "is not an address"),
+    ("-4 t x", "-4 is not an address"),
+    ("0 q x", "q is not a type"),
+    ("0 U x", "U is not a type"),
+    ("0", "expected ADDRESS TYPE NAME"),
+    ("0 t", "expected ADDRESS TYPE NAME"),
+    ("0 t x y", "expected ADDRESS TYPE NAME"),
+    ("0 t x\ty", "expected ADDRESS TYPE NAME"),
+    ("0 t x\tfile:", "expected ADDRESS TYPE NAME"),
+    ("0 t x\tfile:0", "lines of a source are counted from 1"),
+    ("0 l file", "expected ADDRESS l FILE:LINE"),
+    ("0 l file:0", "lines of a source are counted from 1"),
+    ("2 l file:1", "the address 2 of code is not a multiple of 4"),
+    ("2 t x", "the address 2 of code is not a multiple of 4"),
+    ("100000 t x", "the address 100000 is not below 100000 (hexadecimal)"),
+    ("1000000 d x", "the address 1000000 is not below 1000000"),
+    ("100000000 a x", "the constant 100000000 is not below 100000000"),
+    ("ffffffffffffffff t x", "the address FFFFFFFFFFFFFFFF is not below 100000"),
+    ("0 100001 t x", "the size 100001 leads beyond 100000"),
+    ("10 fffffff d x", "the size FFFFFFF leads beyond 1000000"),
+    ("100000 l file:1", "the address 100000 is not below 100000"),
     (f"0 t {'x' * 201}", "a name has at most 200 characters, and this one has 201"),
     (f"0 t {'x' * 1_000_000}", "a line has at most 4,096 characters, and this one has 1,000,004"),
-    (f"0 t x\t{'f' * 256}:1", "expected ADDRESS TYPE NAME"), ("0 t x\x0by", "expected ADDRESS TYPE NAME"),
+    (f"0 t x\t{'f' * 256}:1", "expected ADDRESS TYPE NAME"),
+    ("0 t x\x0by", "expected ADDRESS TYPE NAME"),
 )
 
 
@@ -93,9 +108,15 @@ class FormatTest(ToolTest):
         self.assertEqual((len(names), names.source(0x40), names.value(8)), (3, "/src/a b:c.c:12", "eight"))
 
     def test_reads_what_it_writes(self) -> None:
-        kept = [symbols.Symbol(0x10, 8, "t", "A.b", "A.asm", 3), symbols.Symbol(0x20, 0, "d", "c"), symbols.Symbol(0xE7F00, 0, "a", "D")]
+        kept = [
+            symbols.Symbol(0x10, 8, "t", "A.b", "A.asm", 3),
+            symbols.Symbol(0x20, 0, "d", "c"),
+            symbols.Symbol(0xE7F00, 0, "a", "D"),
+        ]
         text = written(kept, [symbols.Source(0x10, "A.asm", 4)])
-        self.assertEqual(text.splitlines(), ["00000010 00000008 t A.b\tA.asm:3", "00000020 d c", "000E7F00 a D", "00000010 l A.asm:4"])
+        self.assertEqual(
+            text.splitlines(), ["00000010 00000008 t A.b\tA.asm:3", "00000020 d c", "000E7F00 a D", "00000010 l A.asm:4"]
+        )
         names = parsed(text.encode())
         self.assertEqual([names.exactly(it.address)[0] for it in kept[:2]], kept[:2])
         self.assertEqual(names.source(0x14), "A.asm:4")
@@ -103,13 +124,27 @@ class FormatTest(ToolTest):
 
 class LookUpTest(ToolTest):
     def test_a_name_reaches_as_far_as_it_says(self) -> None:
-        self.assertEqual(called("10 8 t a\n20 t b\n30 d c\n", 0xF, 0x10, 0x17, 0x18, 0x20, 0x2F, 0x30, 0x1002F, 0x10030),
-                         ["", "a", "a + 0x7", "", "b", "b + 0xF", "c", "c + 0xFFFF", ""])
+        self.assertEqual(
+            called("10 8 t a\n20 t b\n30 d c\n", 0xF, 0x10, 0x17, 0x18, 0x20, 0x2F, 0x30, 0x1002F, 0x10030),
+            ["", "a", "a + 0x7", "", "b", "b + 0xF", "c", "c + 0xFFFF", ""],
+        )
 
     def test_names_within_a_name(self) -> None:
         text = "100 100 t outer\n120 10 t inner\n140 40 t second\n150 8 t third\n"
-        self.assertEqual(called(text, 0x11C, 0x120, 0x130, 0x148, 0x154, 0x158, 0x180, 0x1FC, 0x200),
-                         ["outer + 0x1C", "inner", "outer + 0x30", "second + 0x8", "third + 0x4", "second + 0x18", "outer + 0x80", "outer + 0xFC", ""])
+        self.assertEqual(
+            called(text, 0x11C, 0x120, 0x130, 0x148, 0x154, 0x158, 0x180, 0x1FC, 0x200),
+            [
+                "outer + 0x1C",
+                "inner",
+                "outer + 0x30",
+                "second + 0x8",
+                "third + 0x4",
+                "second + 0x18",
+                "outer + 0x80",
+                "outer + 0xFC",
+                "",
+            ],
+        )
 
     def test_each_address_has_the_last_name_that_reaches_it(self) -> None:
         rng = random.Random(5)
@@ -133,13 +168,17 @@ class LookUpTest(ToolTest):
 
     def test_lines_go_on_to_the_next_line_or_name(self) -> None:
         names = parsed(b"10 t a\n20 t b\tB.asm:9\n10 l A.asm:1\n18 l A.asm:2\n40 l C.asm:5\n")
-        self.assertEqual([names.source(it) for it in (0x10, 0x14, 0x18, 0x1C, 0x20, 0x24, 0x40, 0x44)],
-                         ["A.asm:1", "A.asm:1", "A.asm:2", "A.asm:2", "B.asm:9", "", "C.asm:5", "C.asm:5"])
+        self.assertEqual(
+            [names.source(it) for it in (0x10, 0x14, 0x18, 0x1C, 0x20, 0x24, 0x40, 0x44)],
+            ["A.asm:1", "A.asm:1", "A.asm:2", "A.asm:2", "B.asm:9", "", "C.asm:5", "C.asm:5"],
+        )
 
     def test_names_have_addresses(self) -> None:
         names = parsed(b"10 t A.b\n20 d c+1\n30 t twice\n40 t twice\n")
-        self.assertEqual([address_of(names, it) for it in ("A.b", "A.b+4", "A.b+0x10", "c+1", "c+1+1", "A", "A.b+z", "+4")],
-                         [0x10, 0x14, 0x20, 0x20, 0x21, None, None, None])
+        self.assertEqual(
+            [address_of(names, it) for it in ("A.b", "A.b+4", "A.b+0x10", "c+1", "c+1+1", "A", "A.b+z", "+4")],
+            [0x10, 0x14, 0x20, 0x20, 0x21, None, None, None],
+        )
         with self.assertRaisesRegex(ValueError, "twice stands for 2 addresses, 0x30, 0x40"):
             address_of(names, "twice")
         self.assertEqual((names.meant("A.d"), names.meant("a.b"), bool(Symbols())), ("A.b", "A.b", False))
@@ -148,7 +187,9 @@ class LookUpTest(ToolTest):
 class CostTest(ToolTest):
     def test_twenty_thousand_names_cost_less_than_a_tenth_of_a_second(self) -> None:
         """The measure is a plain loop that takes half of a tenth of a second where nothing else runs."""
-        text = "".join(f"{4 * at:08X} 00000004 t Mod{at // 100}.Procedure{at}\tMod{at // 100}.Mod:{at + 1}\n" for at in range(20_000)).encode()
+        text = "".join(
+            f"{4 * at:08X} 00000004 t Mod{at // 100}.Procedure{at}\tMod{at // 100}.Mod:{at + 1}\n" for at in range(20_000)
+        ).encode()
         least, measure = float("inf"), float("inf")
         for _ in range(3):
             start = time.process_time()
@@ -165,18 +206,24 @@ class CostTest(ToolTest):
         files = {
             "one address": b"".join(b"0 t %X\n" % at for at in range(most)),
             "long": b"".join(b"%X t %s%X\n" % (4 * (at % 200_000), b"n" * 23, at) for at in range(most)),
-            "nested": b"".join(b"%X %X t n\n" % (2 * at & ~3, 0xFFFF0 - 3 * at) for at in range(most) if 2 * at + 0xFFFF0 - 3 * at < 0x100000),
-            "mistakes": b"0 t x y\n" * most, "colons": (b"0 t a\t" + b"1:" * 1000 + b"x\n") * 4900,
-            "blanks": (b"0" + b" " * 4000 + b"q\n") * 2400, "lines": b"".join(b"%X l f:1\n" % (4 * at) for at in range(most)),
+            "nested": b"".join(
+                b"%X %X t n\n" % (2 * at & ~3, 0xFFFF0 - 3 * at) for at in range(most) if 2 * at + 0xFFFF0 - 3 * at < 0x100000
+            ),
+            "mistakes": b"0 t x y\n" * most,
+            "colons": (b"0 t a\t" + b"1:" * 1000 + b"x\n") * 4900,
+            "blanks": (b"0" + b" " * 4000 + b"q\n") * 2400,
+            "lines": b"".join(b"%X l f:1\n" % (4 * at) for at in range(most)),
         }
-        script = ("import resource,sys,time; from galluspa import symbols as s\n"
-                  "content = open(sys.argv[1], 'rb').read() if sys.argv[1] else b''\n"
-                  "start = time.process_time()\n"
-                  "try: it = s.parsed(content); it.text(0x1000); it.source(0x1000); it.places('n')\n"
-                  "except s.Mistaken: pass\n"
-                  "took = time.process_time() - start; start = time.process_time()\n"
-                  "sum(at for at in range(4_000_000))\n"
-                  "print(resource.getrusage(resource.RUSAGE_SELF).ru_maxrss, took / (time.process_time() - start))\n")
+        script = (
+            "import resource,sys,time; from galluspa import symbols as s\n"
+            "content = open(sys.argv[1], 'rb').read() if sys.argv[1] else b''\n"
+            "start = time.process_time()\n"
+            "try: it = s.parsed(content); it.text(0x1000); it.source(0x1000); it.places('n')\n"
+            "except s.Mistaken: pass\n"
+            "took = time.process_time() - start; start = time.process_time()\n"
+            "sum(at for at in range(4_000_000))\n"
+            "print(resource.getrusage(resource.RUSAGE_SELF).ru_maxrss, took / (time.process_time() - start))\n"
+        )
 
         def cost(path: object) -> tuple[int, float]:
             ran = run([sys.executable, "-c", script, path], env={"PYTHONPATH": str(TOOLS)})
@@ -232,8 +279,17 @@ class ShownTest(ToolTest):
     def test_trace_says_who_probably_called(self) -> None:
         lines = self.printed("trace", "--steps", 14, "--calls")
         told = [it.removeprefix("  probably: ") for it in lines if "probably" in it]
-        self.assertEqual(told, ["Main", "Dots.Row < Main + 0x8", "Dots.Put < Dots.Row + 0x10 < Main + 0x8", "Dots.Row + 0x10 < Main + 0x8",
-                                "Main + 0x8", "Dots.Row < Main + 0xC"])
+        self.assertEqual(
+            told,
+            [
+                "Main",
+                "Dots.Row < Main + 0x8",
+                "Dots.Put < Dots.Row + 0x10 < Main + 0x8",
+                "Dots.Row + 0x10 < Main + 0x8",
+                "Main + 0x8",
+                "Dots.Row < Main + 0xC",
+            ],
+        )
 
     def test_trace_guesses_without_names(self) -> None:
         self.symbols.unlink()
@@ -243,8 +299,11 @@ class ShownTest(ToolTest):
 
     def test_find(self) -> None:
         for condition, shown in (
-            ("PC=Dots.Put", "Dots.Put, Dots.Mod:4, stores to Dots.buf + 0x4"), ("store Dots.buf+4", "Dots.Put, Dots.Mod:4, stores to Dots.buf + 0x4"),
-            ("Dots.Row", "Dots.Row"), ("PC=Dots.Row+8-Dots.Put", "Dots.Row + 0x8"), ("change Dots.buf-Dots.buf+0xF", "Dots.Put, Dots.Mod:4, stores"),
+            ("PC=Dots.Put", "Dots.Put, Dots.Mod:4, stores to Dots.buf + 0x4"),
+            ("store Dots.buf+4", "Dots.Put, Dots.Mod:4, stores to Dots.buf + 0x4"),
+            ("Dots.Row", "Dots.Row"),
+            ("PC=Dots.Row+8-Dots.Put", "Dots.Row + 0x8"),
+            ("change Dots.buf-Dots.buf+0xF", "Dots.Put, Dots.Mod:4, stores"),
             ("PC=Main+0xC", "Main + 0xC, to Main + 0xC"),
         ):
             line, *more = self.printed("find", *condition.split())
@@ -258,9 +317,16 @@ class ShownTest(ToolTest):
         self.assertEqual((ran.status, ran.errors), (1, f"galluspa explain: 4 names from {self.symbols}\n"))
         lines = ran.output.decode().splitlines()
         at = lines.index("The last instructions before count 40 that wrote R15:")
-        self.assertEqual([it.partition("  ; ")[2] for it in lines[at + 1 : at + 6]],
-                         ["Dots.Row + 0xC, to Dots.Put", "Dots.Row + 0x10", "Main + 0x8, to Dots.Row", "Dots.Row + 0xC, to Dots.Put",
-                          "Dots.Row + 0x10"])
+        self.assertEqual(
+            [it.partition("  ; ")[2] for it in lines[at + 1 : at + 6]],
+            [
+                "Dots.Row + 0xC, to Dots.Put",
+                "Dots.Row + 0x10",
+                "Main + 0x8, to Dots.Row",
+                "Dots.Row + 0xC, to Dots.Put",
+                "Dots.Row + 0x10",
+            ],
+        )
         self.assertIn("probably: Dots.Row + 0x10 < Main + 0xC", lines)
 
     def test_explain_names_what_differs(self) -> None:
@@ -280,7 +346,10 @@ class ShownTest(ToolTest):
         self.assertTrue(lines[-1].startswith("  page 0, Mem[000204]") and lines[-1].endswith("04030201  ; Dots.buf + 0x4"), lines)
 
     def test_bisect(self) -> None:
-        script = self.file("other.py", "import json, sys\ncount = int(sys.argv[1])\nprint(json.dumps({'PC': [0, 1, 4, 5, 6, 7, 11, 12, 9][count]}))\n")
+        script = self.file(
+            "other.py",
+            "import json, sys\ncount = int(sys.argv[1])\nprint(json.dumps({'PC': [0, 1, 4, 5, 6, 7, 11, 12, 9][count]}))\n",
+        )
         ran = tool("bisect", self.recording, "--to", 8, "--steps", 2, "--", sys.executable, script, "{count}")
         lines = ran.output.decode().splitlines()
         self.assertIn("PC  9          8  ; Dots.Row + 0x14 and Dots.Row + 0x10", lines)
@@ -293,8 +362,11 @@ class ShownTest(ToolTest):
         ran = tool("session", "--memory", image, "--set", "PC=Dots.buf", "--every", 1, "--until", 1)
         self.assertTrue(ran.errors.endswith("; PC is at Dots.buf\n"), ran.errors)
         self.symbols.write_text("2 d Odd\n4 t Two\n8 t Two\n")
-        for name, told in (("Odd", "--set PC: Odd is at byte 2 (hexadecimal), which is not a multiple of 4"), ("Two", "Two stands for 2 addresses"),
-                           ("Three", "Three")):
+        for name, told in (
+            ("Odd", "--set PC: Odd is at byte 2 (hexadecimal), which is not a multiple of 4"),
+            ("Two", "Two stands for 2 addresses"),
+            ("Three", "Three"),
+        ):
             ran = tool("session", "--memory", image, "--set", f"PC={name}", "--every", 1, "--until", 1)
             self.assertEqual(ran.status, 2)
             self.assertIn(told, ran.errors)
@@ -315,7 +387,7 @@ class ShownTest(ToolTest):
         self.assertNotIn("symbol file", tool("report", false).output.decode())
 
     def test_names_are_beside_the_numbers_of_objects(self) -> None:
-        one, = map(json.loads, self.printed("find", "--json", "PC=Dots.Put"))
+        (one,) = map(json.loads, self.printed("find", "--json", "PC=Dots.Put"))
         self.assertEqual((one["PC"], one["word"], one["memory"]), (11, word_of("STR R0, R0, 4"), [[0x204, 0, 0x200]]))
         self.assertEqual(one["names"], {"PC": "Dots.Put", "source": "Dots.Mod:4", "address": "Dots.buf + 0x4"})
         objects = list(map(json.loads, self.printed("trace", "--json", "--calls", "--steps", 3)))
@@ -325,9 +397,12 @@ class ShownTest(ToolTest):
     def test_refuses_conditions_with_other_names(self) -> None:
         self.symbols.write_text(f"{NAMES}40 t Twice\n44 t Twice\n201 d Odd\nE7F00 a Screen\n1000000 a Large\n")
         for condition, told in (
-            ("PC=Dots.Row2", "no symbol is called Dots.Row2: did you mean Dots.Row?"), ("store buf", "no symbol is called buf"),
-            ("PC=Twice", "Twice stands for 2 addresses, 0x40, 0x44"), ("PC=Odd", "Odd is at byte 201 (hexadecimal), and instructions"),
-            ("store Large", "an address is below"), ("change Dots.buf-Main", "nothing is from Dots.buf to Main"),
+            ("PC=Dots.Row2", "no symbol is called Dots.Row2: did you mean Dots.Row?"),
+            ("store buf", "no symbol is called buf"),
+            ("PC=Twice", "Twice stands for 2 addresses, 0x40, 0x44"),
+            ("PC=Odd", "Odd is at byte 201 (hexadecimal), and instructions"),
+            ("store Large", "an address is below"),
+            ("change Dots.buf-Main", "nothing is from Dots.buf to Main"),
         ):
             ran = tool("find", self.recording, *condition.split())
             self.assertEqual((ran.status, ran.output), (2, b""))
@@ -346,7 +421,9 @@ class ShownTest(ToolTest):
         self.assertEqual((ran.status, len(ran.output.splitlines())), (0, 1))
         self.assertIn(f"{self.symbols}:2: expected ADDRESS TYPE NAME", ran.errors)
         self.assertTrue(ran.errors.endswith("; its names are not shown\n"), ran.errors)
-        self.assert_refused(tool("trace", self.recording, "--symbols", self.symbols), f"{self.symbols}:2: expected ADDRESS TYPE NAME")
+        self.assert_refused(
+            tool("trace", self.recording, "--symbols", self.symbols), f"{self.symbols}:2: expected ADDRESS TYPE NAME"
+        )
         self.assert_refused(tool("find", self.recording, "stop", "--symbols", self.folder / "none"), "No such file")
 
     def test_hostile_names_are_shown_harmlessly(self) -> None:
@@ -399,15 +476,24 @@ class AssembleTest(ToolTest):
         ran = tool("assemble", self.main, self.rest, "-o", self.folder / "it.json", "--symbols", path)
         self.assertEqual((ran.status, ran.errors), (0, ""))
         lines = path.read_text().splitlines()
-        self.assertEqual(lines[:6], [
-            f"00000008 0000001C t Dots.Row\t{self.dots}:2", f"00000024 00000008 d Dots.buf\t{self.dots}:10", f"0000002C 00000004 t Main\t{self.main}:6",
-            f"00000030 0000000C t next\t{self.rest}:1", f"0000003C 00000004 t done\t{self.rest}:4", f"00001000 a Stack\t{self.main}:2",
-        ])
+        self.assertEqual(
+            lines[:6],
+            [
+                f"00000008 0000001C t Dots.Row\t{self.dots}:2",
+                f"00000024 00000008 d Dots.buf\t{self.dots}:10",
+                f"0000002C 00000004 t Main\t{self.main}:6",
+                f"00000030 0000000C t next\t{self.rest}:1",
+                f"0000003C 00000004 t done\t{self.rest}:4",
+                f"00001000 a Stack\t{self.main}:2",
+            ],
+        )
         self.assertEqual(lines[6:9], [f"00000000 l {self.main}:4", f"00000004 l {self.dots}:1", f"00000008 l {self.dots}:3"])
         self.assertEqual(len(lines), 6 + 14)
         self.file("it.orsr", record((self.folder / "it.json").read_bytes()))
         ran = tool("find", self.folder / "it.orsr", "--last", "store", "Dots.buf")
-        self.assertTrue(ran.output.decode().endswith(f"  ; Dots.Row + 0xC, {shortened(f'{self.dots}')}:6, stores to Dots.buf\n"), ran.output)
+        self.assertTrue(
+            ran.output.decode().endswith(f"  ; Dots.Row + 0xC, {shortened(f'{self.dots}')}:6, stores to Dots.buf\n"), ran.output
+        )
         ran = tool("trace", self.folder / "it.orsr", "--calls", "--steps", 12)
         told = [it.removeprefix("  probably: ") for it in ran.output.decode().splitlines() if "probably" in it]
         self.assertEqual(told, ["0x0", "Main", "Main + 0x4", "Dots.Row < Main + 0x8", "Main + 0x8"])
@@ -423,23 +509,34 @@ class AssembleTest(ToolTest):
 
     def test_words_have_lines_and_labels(self) -> None:
         lines = tool("assemble", self.main, self.rest, "--words").output.decode().splitlines()
-        self.assertEqual(lines[1:4], [f"     1  E7000009  {self.dots}:1  B Main", f"                  {self.dots}:2  Dots.Row:",
-                                      f"     2  4EE90004  {self.dots}:3  SUB SP, SP, 4"])
+        self.assertEqual(
+            lines[1:4],
+            [
+                f"     1  E7000009  {self.dots}:1  B Main",
+                f"                  {self.dots}:2  Dots.Row:",
+                f"     2  4EE90004  {self.dots}:3  SUB SP, SP, 4",
+            ],
+        )
         self.assertEqual(lines[12], f"                  {self.main}:6  Main:")
 
     def test_mistakes_have_their_file_and_line(self) -> None:
         self.dots.write_text(DOTS.replace("MOV R0", "MOV R0,") + "Stack: word 1\n")
-        self.rest.write_text(MAIN_GOES_ON + "include \"none.asm\"\ninclude\nCount = R6\nSub = 3\nuntil loops\norigin 8\nword Count\n")
+        self.rest.write_text(MAIN_GOES_ON + 'include "none.asm"\ninclude\nCount = R6\nSub = 3\nuntil loops\norigin 8\nword Count\n')
         self.main.write_text(MAIN)
         ran = tool("assemble", self.main, self.rest)
         self.assertEqual(ran.status, 2)
         lines = ran.errors.splitlines()
-        for told in (f"{self.dots}:5:16: a number or a name is missing here", f"{self.dots}:11:1: Stack is defined in line 2 of {self.main} already",
-                     f"{self.main}:7:13: count is not defined: did you mean Count?",
-                     f"{self.rest}:6:1: {self.folder}/none.asm: No such file or directory",
-                     f"{self.rest}:7:1: include needs a line of its own", f"{self.rest}:8:1: Count is defined in line 3 of {self.main} already",
-                     f"{self.rest}:10:1: until is in line 5 already", f"{self.rest}:12:6: Count is a register, where a number is wanted",
-                     f"{self.rest}:11:1: the bytes from 8H to BH are filled from line 1 of {self.main} on, too"):
+        for told in (
+            f"{self.dots}:5:16: a number or a name is missing here",
+            f"{self.dots}:11:1: Stack is defined in line 2 of {self.main} already",
+            f"{self.main}:7:13: count is not defined: did you mean Count?",
+            f"{self.rest}:6:1: {self.folder}/none.asm: No such file or directory",
+            f"{self.rest}:7:1: include needs a line of its own",
+            f"{self.rest}:8:1: Count is defined in line 3 of {self.main} already",
+            f"{self.rest}:10:1: until is in line 5 already",
+            f"{self.rest}:12:6: Count is a register, where a number is wanted",
+            f"{self.rest}:11:1: the bytes from 8H to BH are filled from line 1 of {self.main} on, too",
+        ):
             self.assertTrue(any(it.startswith(told) for it in lines), (told, ran.errors))
         self.assertEqual(lines[-1], f"galluspa assemble: {self.main} and 1 more: {len(lines) - 1} mistakes: wrote nothing")
 
@@ -477,8 +574,10 @@ class DocumentTest(ToolTest):
         ran = run([sys.executable, script], group(r"^```json\n(.*?)^```$", text).encode())
         self.assertEqual((ran.errors, ran.output.decode()), ("", group(r"^Its output:\n\n```text\n(.*?)^```$", text)))
         names = parsed(ran.output)
-        self.assertEqual([names.text(it) for it in (0x1000, 0x1008, 0x1038, 0x1104, 0x11FC, 0x1200)],
-                         ["Texts", "Texts.Write + 0x4", "Texts.WriteLn", "Texts.buf + 0x4", "Texts.buf + 0xFC", "Texts.buf + 0x100"])
+        self.assertEqual(
+            [names.text(it) for it in (0x1000, 0x1008, 0x1038, 0x1104, 0x11FC, 0x1200)],
+            ["Texts", "Texts.Write + 0x4", "Texts.WriteLn", "Texts.buf + 0x4", "Texts.buf + 0xFC", "Texts.buf + 0x100"],
+        )
 
 
 def shortened(name: str) -> str:

@@ -51,24 +51,32 @@ class TraceTest(ToolTest):
     def test_each_part_that_changes_is_told(self) -> None:
         words = (0x5100FFC8, 0x80100014, 0xA0100000, 0xA01FFFFC, 0x82100000, 0xB0300191, 0xE7000001)
         made = record(session(words, [9], [(0, "serial", 0x42), (1, "key", 0x41), (1, "key", 0x42), (6, "timer", 7)]))
-        self.assertEqual(self.lines(made, "--steps", 7), [
-            "         0  input   serial 42 (B)",
-            "         0       0  5100FFC8  MOV R1, -56             R1 00000000 → FFFFFFC8; flags ---- → N---; "
-            "serial 00 → 42, received",
-            "         1  input   key 41 (A)",
-            "         1  input   key 42 (B)",
-            "         1       1  80100014  LDR R0, R1, 20          R0 00000000 → 00000041; flags N--- → ----; keys none → 42",
-            "         2       2  A0100000  STR R0, R1, 0           sends 41 (A)",
-            "         3       3  A01FFFFC  STR R0, R1, -4          LEDs 00 → 41",
-            "         4       4  82100000  LDR R2, R1, 0           R2 00000000 → 00000042; serial 42, received → 42",
-            "         5       5  B0300191  STB R0, R3, 401         Mem[000190] 00000000 → 00004100",
-            "         6  input   timer 7",
-            "         6       6  E7000001  B 1                     PC 6 → 8; timer 0 → 7",
-        ])
+        self.assertEqual(
+            self.lines(made, "--steps", 7),
+            [
+                "         0  input   serial 42 (B)",
+                "         0       0  5100FFC8  MOV R1, -56             R1 00000000 → FFFFFFC8; flags ---- → N---; "
+                "serial 00 → 42, received",
+                "         1  input   key 41 (A)",
+                "         1  input   key 42 (B)",
+                "         1       1  80100014  LDR R0, R1, 20          R0 00000000 → 00000041; flags N--- → ----; keys none → 42",
+                "         2       2  A0100000  STR R0, R1, 0           sends 41 (A)",
+                "         3       3  A01FFFFC  STR R0, R1, -4          LEDs 00 → 41",
+                "         4       4  82100000  LDR R2, R1, 0           R2 00000000 → 00000042; serial 42, received → 42",
+                "         5       5  B0300191  STB R0, R3, 401         Mem[000190] 00000000 → 00004100",
+                "         6  input   timer 7",
+                "         6       6  E7000001  B 1                     PC 6 → 8; timer 0 → 7",
+            ],
+        )
 
     def test_the_end_of_a_machine_is_told(self) -> None:
-        for words, stop in (((0xC7000001,), None), ((0x000C0000,), "float"), ((0x000B0000,), "divisor"),
-                            ((0x6100001F, 0x81100000), "address"), ((0x6100FFFF, 0xC7000001), "fetch")):
+        for words, stop in (
+            ((0xC7000001,), None),
+            ((0x000C0000,), "float"),
+            ((0x000B0000,), "divisor"),
+            ((0x6100001F, 0x81100000), "address"),
+            ((0x6100FFFF, 0xC7000001), "fetch"),
+        ):
             lines = self.lines(record(session(words, [5])), "--to", 5)
             if stop:
                 self.assertTrue(lines[-2].endswith(f"stop running → {stop}"), lines)
@@ -79,18 +87,34 @@ class TraceTest(ToolTest):
 
     def test_objects_for_machines(self) -> None:
         objects = [json.loads(line) for line in self.lines(record(session(SENDING, [40])), "--from", 22, "--to", 25, "--json")]
-        self.assertEqual(objects[1], {
-            "count": 23, "inputs": [], "PC": 5, "word": 0xA0100000, "instruction": "STR R0, R1, 0",
-            "changed": {"PC": [5, 6]}, "memory": [], "sent": [0x41],
-        })
+        self.assertEqual(
+            objects[1],
+            {
+                "count": 23,
+                "inputs": [],
+                "PC": 5,
+                "word": 0xA0100000,
+                "instruction": "STR R0, R1, 0",
+                "changed": {"PC": [5, 6]},
+                "memory": [],
+                "sent": [0x41],
+            },
+        )
         self.assertEqual(objects[2]["memory"], [[400, 0, 0x41]])
         self.assertEqual(objects[0]["changed"], {"R0": [0, 0x41], "PC": [4, 5], "flags": [4, 0]})
 
     def test_finds_the_first_that_brings_something_about(self) -> None:
         made = record(session(SENDING, [40]))
         for condition, count in (
-            (["sent"], 23), (["store", "0x193"], 24), (["write", "400"], 24), (["R2=8"], 4), (["4"], 22), (["PC=4"], 22),
-            (["flags=Z"], 20), (["R0=0x41"], 22), (["stop", "R0=0x41", "sent"], 22),
+            (["sent"], 23),
+            (["store", "0x193"], 24),
+            (["write", "400"], 24),
+            (["R2=8"], 4),
+            (["4"], 22),
+            (["PC=4"], 22),
+            (["flags=Z"], 20),
+            (["R0=0x41"], 22),
+            (["stop", "R0=0x41", "sent"], 22),
         ):
             lines = self.lines(made, "--steps", 2, "--until", *condition)
             self.assertEqual([int(line.split()[0]) for line in lines], [count - 1, count], condition)
@@ -129,8 +153,9 @@ class TraceTest(ToolTest):
     def test_the_run_is_the_machines_where_a_claim_is_false(self) -> None:
         row = "         2       0  45000001  MOV R5, 1"
         self.assertEqual(self.lines(rejoining(9), "--from", 2, "--to", 3), [row])
-        self.assertEqual(self.lines(rejoining(9), "--at", 1, "--from", 2, "--to", 3),
-                         [f"{row}               R5 00000009 → 00000001"])
+        self.assertEqual(
+            self.lines(rejoining(9), "--at", 1, "--from", 2, "--to", 3), [f"{row}               R5 00000009 → 00000001"]
+        )
 
     def test_what_is_written_is_what_changes(self) -> None:
         """Of random programs: whatever changes is among what an instruction is said to write."""
@@ -138,8 +163,13 @@ class TraceTest(ToolTest):
         for _ in range(6):
             kinds = (0, 0x40000000, 0x80000000, 0xA0000000, 0xF7000000)
             words = [source.choice(kinds) | source.getrandbits(28) & 0xFFF70FFF for _ in range(200)]
-            made = record({**session(words, [1]), "version": 2, "start": {
-                "R": [source.getrandbits(19) for _ in range(16)], "H": 0, "PC": 0, "flags": 0, "rate": 0, "phase": 0}})
+            made = record(
+                {
+                    **session(words, [1]),
+                    "version": 2,
+                    "start": {"R": [source.getrandbits(19) for _ in range(16)], "H": 0, "PC": 0, "flags": 0, "rate": 0, "phase": 0},
+                }
+            )
             for step in steps_of(made, 100):
                 changed = {f"R{at}" for at in range(16) if step.before.registers[at] != step.after.registers[at]}
                 changed |= {"H"} if step.before.h != step.after.h else set()
@@ -158,9 +188,16 @@ class TraceTest(ToolTest):
         self.assert_refused(tool("trace", stored, "--at", 1), "count 0 is before checkpoint 1, at 100")
         self.assert_refused(tool("trace", stored, "--from", 101), "--from 101 is after the last checkpoint, which is at 100")
         self.assert_refused(tool("trace", stored, "--from", (1 << 40) + 1), "'1099511627777' is not a whole number from 0 to ")
-        for words, told in ((["write"], "write: expected a PLACE"), (["R16=1"], "R16: expected PC=N"), (["R1="], "R1: expected"), (["x"], "x: expected"),
-                            (["sent", "1", "R1"], "R1: expected"), (["write", "1", "mask"], "mask: expected"), (["PC=0x400000"], "PC 0x400000: a PC is below"),
-                            (["flags=16"], "flags can have no bit but those of F ")):
+        for words, told in (
+            (["write"], "write: expected a PLACE"),
+            (["R16=1"], "R16: expected PC=N"),
+            (["R1="], "R1: expected"),
+            (["x"], "x: expected"),
+            (["sent", "1", "R1"], "R1: expected"),
+            (["write", "1", "mask"], "mask: expected"),
+            (["PC=0x400000"], "PC 0x400000: a PC is below"),
+            (["flags=16"], "flags can have no bit but those of F "),
+        ):
             self.assert_refused(tool("trace", stored, "--until", *words), told)
 
     def test_refuses_what_is_no_library(self) -> None:
@@ -197,12 +234,18 @@ class AtOnceTest(ToolTest):
         loop = page_of(0x5100FFC0, *[0xEF000000] * 200, 0x82100010, 0x83100008, 0x84100018, 0x8510001C, 0xA5100004, 0xE7FFFFFA)
         for serial in (0, 0x42, 0x142, 0x100):
             first = claim(0, rate=9, phase=8, timer=77, switches=0xABC, leds=0x5A, mouse=0x07001002, serial=serial, keys=b"\0abc")
-            steps = self.assert_alike(encoded(2, [loop], [first, replace(first, count=1)], [Event(100, 5, 9), Event(300, 4, 8)]), 500)
+            steps = self.assert_alike(
+                encoded(2, [loop], [first, replace(first, count=1)], [Event(100, 5, 9), Event(300, 4, 8)]), 500
+            )
             leds = [step.after.leds for step in steps]
             self.assertEqual((set(leds[:204]), set(leds[205:])), ({0x5A}, {0, 8, 0x61, 0x62, 0x63}))
 
     def test_they_end_where_the_machine_stops(self) -> None:
-        for words in ((*[0xEF000000] * 240, 0x000C0000), (*[0xEF000000] * 64, 0x600B0000), (0x40080001,) * 240 + (0x6F000020, 0xA1F00000)):
+        for words in (
+            (*[0xEF000000] * 240, 0x000C0000),
+            (*[0xEF000000] * 64, 0x600B0000),
+            (0x40080001,) * 240 + (0x6F000020, 0xA1F00000),
+        ):
             jump = (0x5F00FFFF, 0x4FF10010, 0xC700000F)
             for program in (words, words[:-1] + jump):
                 steps = self.assert_alike(record(session(program, [9])), 5000)
@@ -213,8 +256,23 @@ class AtOnceTest(ToolTest):
         source = random.Random(3)
         for _ in range(4):
             words = [word for word in (self.word(source) for _ in range(400)) if word >> 31 or word >> 16 & 15 < 11][:250]
-            steps = self.assert_alike(record({**session(words, [1]), "version": 2, "start": {
-                "R": [source.getrandbits(18) for _ in range(16)], "H": 0, "PC": 0, "flags": 0, "rate": 3, "phase": 0}}), 900)
+            steps = self.assert_alike(
+                record(
+                    {
+                        **session(words, [1]),
+                        "version": 2,
+                        "start": {
+                            "R": [source.getrandbits(18) for _ in range(16)],
+                            "H": 0,
+                            "PC": 0,
+                            "flags": 0,
+                            "rate": 3,
+                            "phase": 0,
+                        },
+                    }
+                ),
+                900,
+            )
             self.assertGreater(len(steps), FIRST_ONES)
 
     def word(self, source: random.Random) -> int:

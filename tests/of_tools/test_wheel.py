@@ -45,8 +45,12 @@ class WheelTest(ToolTest):
         names = zipfile.ZipFile(self.wheel).namelist()
         for name in ("oberon_replay", "libgalluspa.so", "galluspa.h", "galluspa.html", "VERSION"):
             self.assertIn(f"galluspa/installed/{name}", names)
-        self.assertEqual(sorted(it for it in names if it.startswith("galluspa/commands/")), sorted(
-            ["galluspa/commands/__init__.py", *(f"galluspa/commands/{it.name.replace('-', '_')}.py" for it in commands(False))]))
+        self.assertEqual(
+            sorted(it for it in names if it.startswith("galluspa/commands/")),
+            sorted(
+                ["galluspa/commands/__init__.py", *(f"galluspa/commands/{it.name.replace('-', '_')}.py" for it in commands(False))]
+            ),
+        )
         for name in ("packages", "manual"):
             self.assertNotIn(f"galluspa/{name}.py", names)
         self.assertRegex(self.wheel.name, r"^galluspa-0\.\d{8}-py3-none-linux_\w+\.whl$")
@@ -86,8 +90,12 @@ class WheelTest(ToolTest):
         wheel = self.folder / "galluspa-7.8-py3-none-any.whl"
         root = self.folder / "root"
         zipfile.ZipFile(wheel).extractall(root)
-        self.assertEqual({path.name for path in (root / "galluspa/installed").iterdir()}, {"galluspa.h", "galluspa.html", "VERSION"})
+        self.assertEqual(
+            {path.name for path in (root / "galluspa/installed").iterdir()}, {"galluspa.h", "galluspa.html", "VERSION"}
+        )
         made = self.file("hello.orsr", record((EXAMPLES / "hello.json").read_bytes()))
         bare_command = [PYTHON, "-B", "-m", "galluspa"]
         self.assert_refused(run([*bare_command, made], cwd=root), "there is no program oberon_replay: build it")
-        self.assertEqual(run([*bare_command, "check", "--program", PROGRAM, made], cwd=root).output, b"accepted 2 checkpoints 100 steps\n")
+        self.assertEqual(
+            run([*bare_command, "check", "--program", PROGRAM, made], cwd=root).output, b"accepted 2 checkpoints 100 steps\n"
+        )

@@ -19,8 +19,10 @@ STACK_POINTER, LINK = "SP", "LNK"
 REGISTER_NAMES = {**{name: at for at, name in enumerate(REGISTERS)}, STACK_POINTER: 14, LINK: 15}
 # A sum: all up to the last sign, the sign, and a number.
 SUM = re.compile(r"(.+?)\s*([+-])\s*(0[xX][0-9A-Fa-f]{1,8}|[0-9]{1,10})")
-WANTED = ("expected an address: a number, decimal or hexadecimal with 0x in front, R0 to R15, SP, LNK, PC or a name of "
-          "a symbol file, each with + or - a number after it")
+WANTED = (
+    "expected an address: a number, decimal or hexadecimal with 0x in front, R0 to R15, SP, LNK, PC or a name of "
+    "a symbol file, each with + or - a number after it"
+)
 MOST_CHARACTERS = 1000
 
 
@@ -58,8 +60,7 @@ def address_in_memory(text: str, state: Checkpoint, symbols: Symbols) -> int:
     """The same of an address of memory."""
     address = value_of(text, state, symbols)
     if address >= MEMORY_BYTES:
-        raise Refused(f"{shown(text.strip())} is {address:X}, and an address of memory is below {MEMORY_BYTES:X} "
-                      "(hexadecimal)")
+        raise Refused(f"{shown(text.strip())} is {address:X}, and an address of memory is below {MEMORY_BYTES:X} " "(hexadecimal)")
     return address
 
 

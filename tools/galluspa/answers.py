@@ -22,8 +22,9 @@ def parser(description: str, example: str, file: str, statuses: dict[int, str]) 
     """Returns the command line of a command of the program that reads one file, and writes what it makes of it."""
     options = Parser(description, example, {**statuses, WORDS_REFUSED: "the program refuses its arguments"})
     options.add_argument("file", metavar=file, type=Path, nargs="?", help="the file (default: standard input)")
-    options.add_argument("-o", "--output", metavar="FILE", type=Path,
-                         help="write the result into a file, and not to standard output")
+    options.add_argument(
+        "-o", "--output", metavar="FILE", type=Path, help="write the result into a file, and not to standard output"
+    )
     options.add_program_option()
     return options
 
@@ -35,16 +36,13 @@ def main(asked: Namespace, command: str, options: Sequence[str] = ()) -> int:
 
 
 def files_of(files: Sequence[Path], command: str) -> Sequence[Path]:
-    """Returns the files that are named, or standard input if none is; a terminal holds neither recording nor session.
-    """
+    """Returns the files that are named, or standard input if none is; a terminal holds neither recording nor session."""
     if not files and sys.stdin is not None and sys.stdin.isatty():
         raise Refused(f"name a file (see galluspa {command} --help)")
     return files or [STANDARD_INPUT]
 
 
-def carry_out(
-    program: Program, arguments: Sequence[str], path: Path, name: str = "", output: Path | None = None
-) -> int:
+def carry_out(program: Program, arguments: Sequence[str], path: Path, name: str = "", output: Path | None = None) -> int:
     """Lets the program carry out a command over a file, writes what it makes or prints its line, after a name if there
     is one, and explains what it refuses. Returns its exit status."""
     text = read_file(path)

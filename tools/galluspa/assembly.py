@@ -17,17 +17,37 @@ from galluspa.recording import DISPLAY_START
 from galluspa.sessions import MEMORY_BYTES
 from galluspa.sources import SourceLine, lines_of
 from galluspa.statements import (
-    BYTE, CONSTANT, INCLUDE, INSTRUCTION, OFFSETS, ORIGIN, SETTINGS, STRING, WORD, Argument, Statement, content,
-    is_string, statement_of,
+    BYTE,
+    CONSTANT,
+    INCLUDE,
+    INSTRUCTION,
+    OFFSETS,
+    ORIGIN,
+    SETTINGS,
+    STRING,
+    WORD,
+    Argument,
+    Statement,
+    content,
+    is_string,
+    statement_of,
 )
 from galluspa.tokens import Token, Wrong
 
 # The addresses of the device words, as the immediate operand of MOV writes them, and that of the display.
 BUILT_IN = {
-    **{name: DEVICES + offset - (1 << 32) for name, offset in (
-        ("TIMER", TIMER), ("SWITCHES", SWITCHES), ("LEDS", SWITCHES), ("SERIAL", SERIAL), ("STATUS", STATUS),
-        ("MOUSE", MOUSE), ("KEY", KEY),
-    )},
+    **{
+        name: DEVICES + offset - (1 << 32)
+        for name, offset in (
+            ("TIMER", TIMER),
+            ("SWITCHES", SWITCHES),
+            ("LEDS", SWITCHES),
+            ("SERIAL", SERIAL),
+            ("STATUS", STATUS),
+            ("MOUSE", MOUSE),
+            ("KEY", KEY),
+        )
+    },
     "DISPLAY": DISPLAY_START,
 }
 # Each in capital letters, and its place among the names: after all those that a source defines.
@@ -279,9 +299,7 @@ def _contents(it: Assembly) -> Iterator[tuple[int, bytes]]:
 
 
 def _instruction(it: Assembly, statement: Statement) -> int:
-    operands = [
-        operand_of(one.tokens, one.end, it.named, statement.here, it.register_of) for one in statement.arguments
-    ]
+    operands = [operand_of(one.tokens, one.end, it.named, statement.here, it.register_of) for one in statement.arguments]
     return encoded(statement.name, operands, statement.here, statement.is_narrow)
 
 

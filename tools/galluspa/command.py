@@ -23,7 +23,9 @@ MOST = 118_310_057
 SIGNALS = (signal.SIGINT, signal.SIGTERM)
 OK, WRONG, REFUSED, FAILED = range(4)
 STATUSES = {
-    OK: "success", WRONG: "check failed", REFUSED: "bad input or bad arguments",
+    OK: "success",
+    WRONG: "check failed",
+    REFUSED: "bad input or bad arguments",
     FAILED: "a write fails, memory runs out, or the time limit is over",
 }
 
@@ -37,8 +39,7 @@ class Failed(Refused):
 
 
 class Parser(argparse.ArgumentParser):
-    """The command line of a tool or a script. Its help ends with an example, and it refuses bad arguments in one line.
-    """
+    """The command line of a tool or a script. Its help ends with an example, and it refuses bad arguments in one line."""
 
     def __init__(self, description: str, example: str, statuses: dict[int, str] | None = None) -> None:
         """`statuses` says of the exit statuses what is not said of each tool."""
@@ -62,31 +63,35 @@ class Parser(argparse.ArgumentParser):
     def add_program_option(self) -> None:
         """Adds the option that names the program to ask."""
         self.add_argument(
-            "--program", metavar="PATH",
+            "--program",
+            metavar="PATH",
             help="the program oberon_replay to call (default: that of this clone or this installation)",
         )
 
     def add_library_option(self) -> None:
         """Adds the option that names the shared library to call."""
         self.add_argument(
-            "--library", metavar="PATH",
+            "--library",
+            metavar="PATH",
             help="the shared library to call (default: $GALLUSPA_LIBRARY, or the first libgalluspa.so in lib/, "
-                 "crates/galluspa/out/ and out/lib/ of this clone, in this installation, and where the system looks "
-                 "for libraries)",
+            "crates/galluspa/out/ and out/lib/ of this clone, in this installation, and where the system looks "
+            "for libraries)",
         )
 
     def add_symbols_option(self) -> None:
         """Adds the option that names the file that gives names to addresses."""
         self.add_argument(
-            "--symbols", metavar="FILE", type=Path,
-            help="show the names that this symbol file gives to addresses (default: NAME.sym beside the file, if it is "
-                 "there)",
+            "--symbols",
+            metavar="FILE",
+            type=Path,
+            help="show the names that this symbol file gives to addresses (default: NAME.sym beside the file, if it is " "there)",
         )
 
     def add_limit_option(self, what: str) -> None:
         """Adds the option that bounds the time; `what` says of what, and what is answered when it is over."""
-        self.add_argument("--limit", metavar="SECONDS", type=whole_number(1, 1 << 30), default=SECONDS,
-                          help=f"{what} (default {SECONDS})")
+        self.add_argument(
+            "--limit", metavar="SECONDS", type=whole_number(1, 1 << 30), default=SECONDS, help=f"{what} (default {SECONDS})"
+        )
 
 
 class _Running:

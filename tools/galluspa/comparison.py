@@ -19,8 +19,12 @@ INPUTS_SHOWN, SLOTS_SHOWN = 20, 16
 LINE_BYTES, DOTS = 128, 32
 # What may be compared, and the parts of a state that each has.
 PARTS: dict[str, Sequence[str]] = {
-    "inputs": (), "registers": (*states.REGISTERS, "H", "PC", "flags"), "stop": ("stop",),
-    "devices": ("timer", "rate", "phase", "switches", "LEDs", "mouse", "serial", "keys"), "out": ("out",), "screen": (),
+    "inputs": (),
+    "registers": (*states.REGISTERS, "H", "PC", "flags"),
+    "stop": ("stop",),
+    "devices": ("timer", "rate", "phase", "switches", "LEDs", "mouse", "serial", "keys"),
+    "out": ("out",),
+    "screen": (),
     "memory": (),
 }
 
@@ -87,9 +91,7 @@ class _SamePages:
 
     def __init__(self, one: Recording, other: Recording) -> None:
         seen: dict[bytes, int] = {}
-        self._numbers = [
-            [seen.setdefault(it.page(number), len(seen)) for number in range(it.pages + 1)] for it in (one, other)
-        ]
+        self._numbers = [[seen.setdefault(it.page(number), len(seen)) for number in range(it.pages + 1)] for it in (one, other)]
 
     def differing(self, one: Sequence[int], other: Sequence[int]) -> list[int]:
         """The page slots in which tables of the two recordings name pages of different contents."""
@@ -130,8 +132,12 @@ def _separate(it: _Pair, slots: Sequence[int], only: Set[str]) -> Iterator[Found
             yield Found((f"  and {more:,} more page slots", "", ""), it.number)
     words = [word for slot in slots for word in _words(it, slot) if _is_dots(word.address)] if "screen" in only else []
     if words:
-        yield Found((f"  screen, {_dots(words)}", f"{words[0].old:08X}", f"{words[0].new:08X}"), it.number,
-                    words[0].address, (words[0].old, words[0].new))
+        yield Found(
+            (f"  screen, {_dots(words)}", f"{words[0].old:08X}", f"{words[0].new:08X}"),
+            it.number,
+            words[0].address,
+            (words[0].old, words[0].new),
+        )
 
 
 def _words(it: _Pair, slot: int) -> Iterator[WordChange]:
@@ -155,8 +161,9 @@ def _is_no_dots(address: int) -> bool:
 
 def _word(it: _Pair, slot: int, word: WordChange, is_of_display: bool = False) -> Found:
     kind = ", of the display" if is_of_display else ""
-    return Found((f"  page {slot}, {word.name}{kind}", f"{word.old:08X}", f"{word.new:08X}"), it.number, word.address,
-                 (word.old, word.new))
+    return Found(
+        (f"  page {slot}, {word.name}{kind}", f"{word.old:08X}", f"{word.new:08X}"), it.number, word.address, (word.old, word.new)
+    )
 
 
 def _dots(words: Sequence[WordChange]) -> str:

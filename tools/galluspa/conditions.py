@@ -27,17 +27,25 @@ WORD = 0xFFFFFFFF
 KIND_NUMBERS = {name: kind for kind, name in KINDS.items()}
 # The parts that may become a value, with the bits that they can have.
 BITS = {
-    **dict.fromkeys((*states.REGISTERS, "H"), WORD), "flags": 15, "switches": 0xFFF, "LEDs": 0xFF, "mouse": MOUSE,
+    **dict.fromkeys((*states.REGISTERS, "H"), WORD),
+    "flags": 15,
+    "switches": 0xFFF,
+    "LEDs": 0xFF,
+    "mouse": MOUSE,
     "serial": 0x1FF,
 }
 # What a condition may begin with, whatever the case of its letters, and what it is called.
 STARTS = {it.lower(): it for it in (*BITS, "PC", "store", "write", "load", "change", "sent", "input", "stop")}
 REGISTER_NUMBERS = {name: at for at, name in enumerate((*states.REGISTERS, "H", "flags"))}
-WANTED = ("expected PC=N; store, load or change with a PLACE; NAME=VALUE for R0 to R15, H, flags, LEDs, switches, "
-          "mouse or serial; sent, input or stop")
+WANTED = (
+    "expected PC=N; store, load or change with a PLACE; NAME=VALUE for R0 to R15, H, flags, LEDs, switches, "
+    "mouse or serial; sent, input or stop"
+)
 WANTED_NUMBER = "expected a number, decimal or hexadecimal with 0x in front"
-WANTED_PLACE = ("expected a PLACE: an address or FIRST-LAST, a device such as KEY, page N, or dot X,Y; a number is "
-                "decimal, or hexadecimal with 0x in front")
+WANTED_PLACE = (
+    "expected a PLACE: an address or FIRST-LAST, a device such as KEY, page N, or dot X,Y; a number is "
+    "decimal, or hexadecimal with 0x in front"
+)
 # What an address may be named by: the names that the assembler knows.
 NAMED = {name: value & ADDRESSES - 1 for name, value in BUILT_IN.items()}
 # A hexadecimal number as it is written elsewhere, and a name.
@@ -271,8 +279,10 @@ def _hint(text: str, unknown: str, symbols: Symbols) -> str:
         meant = symbols.meant(unknown)
         return f"no symbol is called {shown(unknown)}" + (f": did you mean {meant}?" if meant else "")
     if LABEL.fullmatch(text):
-        return (f"{text} is not a number, and there is no symbol file: --symbols FILE gives names to addresses, and "
-                "galluspa assemble FILE --symbols NAME.sym makes one of a source")
+        return (
+            f"{text} is not a number, and there is no symbol file: --symbols FILE gives names to addresses, and "
+            "galluspa assemble FILE --symbols NAME.sym makes one of a source"
+        )
     return ""
 
 

@@ -39,13 +39,17 @@ class ShownTable:
 def page(name: str, summary: str, unread: Sequence[str], seen: Coverage) -> Iterator[str]:
     """The page, piece by piece."""
     missing = sum(not seen.times[cell] for cell in CELLS)
-    return templates().get_template("coverage.html.j2").generate(
-        name=name,
-        headline=f"{len(CELLS) - missing:,} of {len(CELLS):,} exercised",
-        is_whole=not missing,
-        summary=summary,
-        unread=unread,
-        tables=[_shown(table, seen) for table in TABLES],
+    return (
+        templates()
+        .get_template("coverage.html.j2")
+        .generate(
+            name=name,
+            headline=f"{len(CELLS) - missing:,} of {len(CELLS):,} exercised",
+            is_whole=not missing,
+            summary=summary,
+            unread=unread,
+            tables=[_shown(table, seen) for table in TABLES],
+        )
     )
 
 

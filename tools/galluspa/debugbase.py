@@ -71,8 +71,10 @@ class Base:
             return words
         address = value_of(text, self.debugger.machine.seen(), self.debugger.symbols)
         if address >= MEMORY_BYTES:
-            raise Refused(f"{shown(text)} is {address:X} now, which is beyond the memory; of a register itself, use "
-                          "catch R5=VALUE, or who R5")
+            raise Refused(
+                f"{shown(text)} is {address:X} now, which is beyond the memory; of a register itself, use "
+                "catch R5=VALUE, or who R5"
+            )
         return [f"0x{address:X}"]
 
 
@@ -100,6 +102,7 @@ def split(text: str) -> list[str]:
 def word_at(address: int, text: str) -> int:
     """The number of the word at a byte address."""
     if address % 4 or address >= MEMORY_BYTES:
-        raise Refused(f"{shown(text)} is byte {address:X} (hexadecimal), and an instruction is at a multiple of 4 "
-                      f"below {MEMORY_BYTES:X}")
+        raise Refused(
+            f"{shown(text)} is byte {address:X} (hexadecimal), and an instruction is at a multiple of 4 " f"below {MEMORY_BYTES:X}"
+        )
     return address // 4

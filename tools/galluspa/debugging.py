@@ -99,12 +99,11 @@ class Command:
 COMMANDS = (
     Command("run", ("r",), "", "go to the beginning, and run to the first point", Commands.restart),
     Command("continue", ("c",), "[N]", "run to the next point, or to the N-th", Commands.go_on, True),
-    Command("reverse-continue", ("rc",), "[N]", "run backward to the point before, or to the N-th",
-            Commands.go_back, True),
-    Command("step", ("s",), "[N]", "run to another line of the source; without lines, do an instruction",
-            Commands.step_line, True),
-    Command("reverse-step", ("rs",), "[N]", "go back to the beginning of the line, or of the one before",
-            Commands.step_line_back, True),
+    Command("reverse-continue", ("rc",), "[N]", "run backward to the point before, or to the N-th", Commands.go_back, True),
+    Command("step", ("s",), "[N]", "run to another line of the source; without lines, do an instruction", Commands.step_line, True),
+    Command(
+        "reverse-step", ("rs",), "[N]", "go back to the beginning of the line, or of the one before", Commands.step_line_back, True
+    ),
     Command("next", ("n",), "[N]", "the same as step, but calls are done as a whole", Commands.next_line, True),
     Command("reverse-next", ("rn",), "[N]", "the same backward", Commands.next_line_back, True),
     Command("stepi", ("si",), "[N]", "do N instructions", Commands.step_instruction, True),
@@ -115,23 +114,30 @@ COMMANDS = (
     Command("reverse-finish", (), "", "go back to the call of the procedure", Commands.finish_back),
     Command("advance", ("until", "u"), "LOCATION", "run to an instruction", Commands.advance),
     Command("at", (), "COUNT", "go to a count: N, +N, -N, start or end", Commands.at),
-    Command("break", ("b",), "[LOCATION]", "pause before an instruction: NAME, FILE:LINE, *ADDRESS or a word number",
-            Commands.break_at),
-    Command("watch", (), "PLACE", "pause after each instruction that changes a place: an address, a name, dot X,Y ..",
-            Commands.watch),
+    Command(
+        "break", ("b",), "[LOCATION]", "pause before an instruction: NAME, FILE:LINE, *ADDRESS or a word number", Commands.break_at
+    ),
+    Command(
+        "watch", (), "PLACE", "pause after each instruction that changes a place: an address, a name, dot X,Y ..", Commands.watch
+    ),
     Command("rwatch", (), "PLACE", "pause after each instruction that loads from a place", Commands.watch_loads),
     Command("awatch", (), "PLACE", "pause after each instruction that stores to a place", Commands.watch_stores),
-    Command("catch", (), "CONDITION ..", "pause before an instruction at which a condition of `galluspa find` holds",
-            Commands.catch),
+    Command(
+        "catch", (), "CONDITION ..", "pause before an instruction at which a condition of `galluspa find` holds", Commands.catch
+    ),
     Command("delete", ("d",), "[N ..]", "delete points by their numbers, or all", Commands.delete),
     Command("info", ("i",), "WHAT [..]", f"show {', '.join(INFO)}", Commands.info),
     Command("x", (), "[/FMT] ADDRESS", "show memory: x/8xw SP, x/4i PC, x/s NAME", Commands.examine),
-    Command("print", ("p", "inspect"), "VALUE", "print a register, a name or a sum; *VALUE is the word of memory there",
-            Commands.print_value),
+    Command(
+        "print",
+        ("p", "inspect"),
+        "VALUE",
+        "print a register, a name or a sum; *VALUE is the word of memory there",
+        Commands.print_value,
+    ),
     Command("backtrace", ("bt", "where"), "", "guess from R15 and the stack who called", Commands.backtrace),
     Command("calls", (), "", "find in the run the calls that have not returned, each with its count", Commands.calls),
-    Command("who", (), "PLACE", "find the last instruction before this count that wrote a place or a register",
-            Commands.who),
+    Command("who", (), "PLACE", "find the last instruction before this count that wrote a place or a register", Commands.who),
     Command("list", ("l",), "[LOCATION]", "show lines of the source", Commands.list_source, True),
     Command("disassemble", ("disas",), "[LOCATION[,N]]", "show instructions", Commands.disassemble),
     Command("screen", (), "[FILE]", "draw the screen: as text, or into a PNG or a PBM", Commands.screen),

@@ -34,8 +34,10 @@ class Shown:
     def differing(self, machine: Machine, sent: Sent) -> list[str]:
         """The names of the parts in which it and a machine differ, in the order of parts."""
         if self.sent is not None and sent.length > SENT_KEPT:
-            raise Refused(f"{sent.length:,} bytes were sent up to {machine.count:,}, and at most {SENT_KEPT:,} are "
-                          "compared: leave out `out`")
+            raise Refused(
+                f"{sent.length:,} bytes were sent up to {machine.count:,}, and at most {SENT_KEPT:,} are "
+                "compared: leave out `out`"
+            )
         own = states.values(machine.seen())
         names = [name for name, value in own.items() if name in self.parts and self.parts[name] != value]
         names += ["out"] if self.sent is not None and self.sent != sent.first else []
@@ -77,8 +79,12 @@ def _shown(command: str, shown: object) -> Shown:
     if not isinstance(shown, dict) or not shown:
         raise Refused(f"{command}: the output is not an object with the parts of a state")
     readers: dict[str, Callable[[object], object]] = {
-        **dict.fromkeys(states.WORDS, _number), "R": _numbers(16, 16), "keys": _numbers(0, 16), "out": _bytes,
-        "memory": _file, "memory_sha256": _digest,
+        **dict.fromkeys(states.WORDS, _number),
+        "R": _numbers(16, 16),
+        "keys": _numbers(0, 16),
+        "out": _bytes,
+        "memory": _file,
+        "memory_sha256": _digest,
     }
     read: dict[str, Any] = {}
     for name, value in shown.items():

@@ -141,8 +141,10 @@ def end_of(asked: argparse.Namespace, session: Session, end: str, most: int) -> 
         return max(count, 1)
     if end == LOOPS and (stopped := run.stop(most)):
         state = run.at(stopped).state
-        raise NoEnd(f"the machine enters no loop: it stops at count {stopped:,}, at word {state.pc:,}, with stop "
-                    f"{state.stop}, {recording.STOPS[state.stop]}: {ADVICE[state.stop]}")
+        raise NoEnd(
+            f"the machine enters no loop: it stops at count {stopped:,}, at word {state.pc:,}, with stop "
+            f"{state.stop}, {recording.STOPS[state.stop]}: {ADVICE[state.stop]}"
+        )
     if end == STOPS:
         raise NoEnd(f"the machine does not stop within {most:,} instructions; a jump to itself is a loop, and no stop")
     raise NoEnd(f"the machine does not enter a loop that it never leaves within {most:,} instructions")

@@ -84,8 +84,10 @@ class Screens:
         """How many dots differ, and where."""
         left, right, top, bottom = self.box()
         many = self.number()
-        return (f"{many:,} {'dot differs' if many == 1 else 'dots differ'}, at {_span('x', left, right)} "
-                f"and {_span('y', ROWS - 1 - bottom, ROWS - 1 - top)}, counted from the left and from below")
+        return (
+            f"{many:,} {'dot differs' if many == 1 else 'dots differ'}, at {_span('x', left, right)} "
+            f"and {_span('y', ROWS - 1 - bottom, ROWS - 1 - top)}, counted from the left and from below"
+        )
 
     def rows(self) -> Iterator[tuple[str, ...]]:
         """The dots around those that differ, row by row from the top, claimed and the machine's: # and . for those that
@@ -132,8 +134,7 @@ class FalseClaim:
             return None
         pairs = enumerate(zip(claimed.first, defined.first))
         at = next((at for at, (one, other) in pairs if one != other), min(claimed.length, defined.length))
-        summary = (f"claimed are {claimed.length:,} bytes, the machine sent {defined.length:,}; "
-                   f"they differ from byte {at:,} on")
+        summary = f"claimed are {claimed.length:,} bytes, the machine sent {defined.length:,}; " f"they differ from byte {at:,} on"
         dumps = ([*states.hexdump(sent.first[at : at + BYTES_SHOWN], at)] or ["no byte"] for sent in self.sent)
         return summary, next(dumps), next(dumps)
 
@@ -222,9 +223,7 @@ class _Sought:
     claimed: Value
 
 
-def _around(
-    run: Run, read: Recording, number: int, before: Machine, near: Machine, sought: _Sought, last: int
-) -> Around:
+def _around(run: Run, read: Recording, number: int, before: Machine, near: Machine, sought: _Sought, last: int) -> Around:
     """Looks at the instructions around the false checkpoint one by one, from a machine near it on up to a count; the
     machine at the checkpoint before it is given, too."""
     part, value, claimed = sought.part, sought.value, sought.claimed

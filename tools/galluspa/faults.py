@@ -8,15 +8,29 @@ from collections.abc import Callable, Iterator, Sequence
 from dataclasses import dataclass
 
 from galluspa.recording import (
-    CHANGE_BYTES, CHANGES_AT, EVENT_BYTES, FIXED_BYTES, HEADER_BYTES, KINDS, OFFSETS, PAGE_BYTES, PLACES, TABLE_BYTES,
+    CHANGE_BYTES,
+    CHANGES_AT,
+    EVENT_BYTES,
+    FIXED_BYTES,
+    HEADER_BYTES,
+    KINDS,
+    OFFSETS,
+    PAGE_BYTES,
+    PLACES,
+    TABLE_BYTES,
 )
 
 WHOLE_BYTES = FIXED_BYTES + TABLE_BYTES
 LONGEST_OUTPUT = 1 << 20
 MOST_COUNT = 1 << 40
 MOUSE = 0x073FF3FF
-RANGES = {1: (0xFFFFFFFF, "any word"), 2: (4095, "below 4,096"), 3: (MOUSE, "inside the mask 073FF3FF"),
-          4: (255, "below 256"), 5: (255, "below 256")}
+RANGES = {
+    1: (0xFFFFFFFF, "any word"),
+    2: (4095, "below 4,096"),
+    3: (MOUSE, "inside the mask 073FF3FF"),
+    4: (255, "below 256"),
+    5: (255, "below 256"),
+}
 
 
 @dataclass(frozen=True)
@@ -100,14 +114,26 @@ def _event(text: bytes, at: int) -> Fault:
     number = (at - HEADER_BYTES - PAGE_BYTES * _number(text, 8)) // EVENT_BYTES
     least = _number(text, at - EVENT_BYTES, 8) if number else 0
     most, rule = RANGES.get(_number(text, at + 8), (0, ""))
-    field = _first_broken(text, [
-        Field("the count", at, 8, f"a count is at most 2^40, and not below that of the event before, {least}",
-              lambda count: least <= count <= MOST_COUNT),
-        Field("the kind", at + 8, 4, "a kind is 1 timer, 2 switches, 3 mouse, 4 key or 5 serial",
-              lambda kind: kind in KINDS),
-        Field("the value", at + 12, 4, f"the value of a {KINDS.get(_number(text, at + 8))} event is {rule}",
-              lambda value: value <= most and not value & ~most),
-    ])
+    field = _first_broken(
+        text,
+        [
+            Field(
+                "the count",
+                at,
+                8,
+                f"a count is at most 2^40, and not below that of the event before, {least}",
+                lambda count: least <= count <= MOST_COUNT,
+            ),
+            Field("the kind", at + 8, 4, "a kind is 1 timer, 2 switches, 3 mouse, 4 key or 5 serial", lambda kind: kind in KINDS),
+            Field(
+                "the value",
+                at + 12,
+                4,
+                f"the value of a {KINDS.get(_number(text, at + 8))} event is {rule}",
+                lambda value: value <= most and not value & ~most,
+            ),
+        ],
+    )
     return _fault(text, field, f" of event {number}")
 
 
@@ -151,29 +177,43 @@ def _fields(text: bytes, claim: _Claim) -> Iterator[Field]:
     def field(name: str, member: str, size: int, rule: str, keeps: Callable[[int], bool]) -> Field:
         return Field(name, claim.start + OFFSETS[member], size, rule, keeps)
 
-    rule = "the count of checkpoint 0 is 0" if is_first else \
-        f"a count is above that of the checkpoint before, {claim.before}, and at most 2^40"
-    yield field("the count", "count", 8, rule,
-                lambda count: count == 0 if is_first else claim.before < count <= MOST_COUNT)
+    rule = (
+        "the count of checkpoint 0 is 0"
+        if is_first
+        else f"a count is above that of the checkpoint before, {claim.before}, and at most 2^40"
+    )
+    yield field("the count", "count", 8, rule, lambda count: count == 0 if is_first else claim.before < count <= MOST_COUNT)
     for name, most, rule in (
-        ("PC", (1 << 22) - 1, "below 4,194,304"), ("flags", 15, "below 16"), ("stop", 4, "at most 4"),
-        ("switches", 4095, "below 4,096"), ("LEDs", 255, "below 256"),
+        ("PC", (1 << 22) - 1, "below 4,194,304"),
+        ("flags", 15, "below 16"),
+        ("stop", 4, "at most 4"),
+        ("switches", 4095, "below 4,096"),
+        ("LEDs", 255, "below 256"),
     ):
         yield field(name, name.lower(), 4, f"{name} {'are' if name[-1] in 'sS' else 'is'} {rule}", _up_to(most))
     yield field("mouse", "mouse", 4, "mouse is inside the mask 073FF3FF", lambda mouse: not mouse & ~MOUSE)
     yield field("serial", "serial", 4, "serial is below 512", _up_to(511))
     keys = _number(text, claim.start + OFFSETS["key_count"])
     yield field("the number of keys", "key_count", 4, "there are at most 16 keys", _up_to(16))
-    yield field("the keys", "keys", 16, f"the bytes at or after the number of keys, {keys}, are 0",
-                lambda bits: keys > 15 or not bits >> 8 * keys)
-    yield field("the output length", "output_length", 4,
-                "the output length of checkpoint 0 is 0" if is_first else
-                f"the output lengths up to here are at most 1,048,576 in all; before it they are {claim.sent}",
-                _up_to(0 if is_first else LONGEST_OUTPUT - claim.sent))
+    yield field(
+        "the keys",
+        "keys",
+        16,
+        f"the bytes at or after the number of keys, {keys}, are 0",
+        lambda bits: keys > 15 or not bits >> 8 * keys,
+    )
+    yield field(
+        "the output length",
+        "output_length",
+        4,
+        "the output length of checkpoint 0 is 0"
+        if is_first
+        else f"the output lengths up to here are at most 1,048,576 in all; before it they are {claim.sent}",
+        _up_to(0 if is_first else LONGEST_OUTPUT - claim.sent),
+    )
     if _number(text, 4) == 2:
         rate = _number(text, claim.start + OFFSETS["rate"])
-        yield field("phase", "phase", 4, f"phase is below the rate, {rate}, or 0 if that is 0",
-                    _up_to(max(rate, 1) - 1))
+        yield field("phase", "phase", 4, f"phase is below the rate, {rate}, or 0 if that is 0", _up_to(max(rate, 1) - 1))
         yield field("the number of changes", "change_count", 4, "there are at most 1,024 changes", _up_to(PLACES))
 
 
@@ -183,12 +223,15 @@ def _page(text: bytes, at: int) -> Fault:
     where = f" of checkpoint {claim.number}"
     if _number(text, 4) == 1:
         slot = (at - claim.start - FIXED_BYTES) // 4
-        return Fault(f"the page id of slot {slot}{where}", at, text[at : at + 4],
-                     f"a page id is at most P, the number of pages, {pages}")
+        return Fault(
+            f"the page id of slot {slot}{where}", at, text[at : at + 4], f"a page id is at most P, the number of pages, {pages}"
+        )
     number = (at - claim.start - CHANGES_AT) // CHANGE_BYTES
     slot, page = struct.unpack_from("<2I", text, at)
-    rule = (f"a page slot is below 1,024 and above that of the change before; a page id is at most P, {pages}, "
-            "and not the one that the slot had")
+    rule = (
+        f"a page slot is below 1,024 and above that of the change before; a page id is at most P, {pages}, "
+        "and not the one that the slot had"
+    )
     return Fault(f"change {number}{where}, page id {page} at slot {slot}", at, text[at : at + 8], rule)
 
 
@@ -206,8 +249,12 @@ def _short(text: bytes, at: int) -> Fault:
     if len(claims) < number:
         start = claims[-1].end if claims else tables
         needs = start + (CHANGES_AT if at < start + CHANGES_AT else _changed_bytes(text, start))
-        return Fault(f"the file ends in checkpoint {len(claims)}, which begins at byte {start}", at, b"",
-                     f"with that checkpoint the recording has at least {needs:,} bytes")
+        return Fault(
+            f"the file ends in checkpoint {len(claims)}, which begins at byte {start}",
+            at,
+            b"",
+            f"with that checkpoint the recording has at least {needs:,} bytes",
+        )
     rule = f"with all bytes that its checkpoints say were sent the recording has {_end(text):,} bytes"
     return Fault("the file ends in the bytes sent", at, b"", rule)
 
@@ -228,5 +275,9 @@ def _end(text: bytes) -> int:
 
 def _trailing(text: bytes, at: int) -> Fault:
     more = len(text) - at
-    return Fault(f"{more:,} {'byte' if more == 1 else 'bytes'} after the end", at, text[at : at + 32],
-                 f"by its header and checkpoints the recording ends before byte {at}")
+    return Fault(
+        f"{more:,} {'byte' if more == 1 else 'bytes'} after the end",
+        at,
+        text[at : at + 32],
+        f"by its header and checkpoints the recording ends before byte {at}",
+    )

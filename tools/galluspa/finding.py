@@ -210,9 +210,7 @@ class Search:
         run.advance(near, count)
         return Hit(next(run.steps(near, count + 1)), condition)
 
-    def _slices(
-        self, run: Run, machine: Machine, to: int, tell: Callable[[int], None]
-    ) -> Iterator[tuple[Machine, int]]:
+    def _slices(self, run: Run, machine: Machine, to: int, tell: Callable[[int], None]) -> Iterator[tuple[Machine, int]]:
         """The slices of a run up to a count in which something may be found: a machine, which has to be advanced
         meanwhile, and the count to which. `tell` gets how far they come. A machine that has stopped does nothing
         more."""

@@ -121,8 +121,9 @@ def screen_lines(pbm: bytes) -> Iterator[str]:
     """A screen as text, with a dot of a character of Braille for each eight by eight dots of which one is set; lines at
     its end that are empty are left out."""
     rows = pbm[len(b"P4\n1024 768\n") :]
-    coarse = [[any(rows[128 * (COARSE * y + part) + x] for part in range(COARSE)) for x in range(128)]
-              for y in range(768 // COARSE)]
+    coarse = [
+        [any(rows[128 * (COARSE * y + part) + x] for part in range(COARSE)) for x in range(128)] for y in range(768 // COARSE)
+    ]
     lines = []
     for top in range(0, len(coarse), DOWN):
         line = ""
@@ -141,7 +142,9 @@ def as_object(machine: Machine, symbols: Symbols) -> dict[str, object]:
     state = machine.seen()
     word = machine.words[state.pc] if state.pc < WORDS else None
     parts: dict[str, object] = {
-        "count": state.count, **states.values(state), "word": word,
+        "count": state.count,
+        **states.values(state),
+        "word": word,
         "instruction": None if word is None else instruction(word, state.pc).mnemonic,
     }
     names = _names(state, symbols)

@@ -49,9 +49,23 @@ class RawState(ctypes.Structure):
     _fields_ = [
         ("count", ctypes.c_uint64),
         ("r", ctypes.c_uint32 * 16),
-        *((name, ctypes.c_uint32) for name in (
-            "h", "pc", "flags", "stop", "timer", "rate", "phase", "switches", "leds", "mouse", "serial", "key_count",
-        )),
+        *(
+            (name, ctypes.c_uint32)
+            for name in (
+                "h",
+                "pc",
+                "flags",
+                "stop",
+                "timer",
+                "rate",
+                "phase",
+                "switches",
+                "leds",
+                "mouse",
+                "serial",
+                "key_count",
+            )
+        ),
         ("keys", ctypes.c_uint8 * 16),
     ]
 
@@ -206,8 +220,9 @@ class Library:
         except Refused:
             if path != NAME:
                 raise
-            raise Refused(f"found no {NAME}: build it with examples/c/install FOLDER, and name "
-                          f"FOLDER/lib/{NAME} with --library") from None
+            raise Refused(
+                f"found no {NAME}: build it with examples/c/install FOLDER, and name " f"FOLDER/lib/{NAME} with --library"
+            ) from None
 
     @staticmethod
     def _load(path: str, limit: Limit | None) -> "Library":
@@ -224,8 +239,12 @@ class Library:
         """The machine that a checkpoint of a recording claims; whether the claim is true is not tested."""
         machine = Machine(RawState(), Words())
         code = self.calls.galluspa_claim(
-            text, ctypes.c_size_t(len(text)), ctypes.c_uint32(at),
-            ctypes.byref(machine.state), machine.words, ctypes.c_size_t(WORDS),
+            text,
+            ctypes.c_size_t(len(text)),
+            ctypes.c_uint32(at),
+            ctypes.byref(machine.state),
+            machine.words,
+            ctypes.c_size_t(WORDS),
         )
         if code:
             raise _refusal(f"cannot read checkpoint {at}", code)
@@ -236,7 +255,8 @@ class Library:
         line, status = ctypes.create_string_buffer(LINE_BYTES), ctypes.c_uint8()
         self.calls.galluspa_check.restype = ctypes.c_size_t
         length = self.calls.galluspa_check(
-            text, ctypes.c_size_t(len(text)), line, ctypes.c_size_t(LINE_BYTES), ctypes.byref(status))
+            text, ctypes.c_size_t(len(text)), line, ctypes.c_size_t(LINE_BYTES), ctypes.byref(status)
+        )
         if not length:
             raise _refusal("cannot check the recording", NO_MEMORY)
         return line.raw[:length].decode("ascii").rstrip("\n"), status.value
@@ -247,7 +267,8 @@ class Library:
         while True:
             out = ctypes.create_string_buffer(room)
             length = self.calls.galluspa_record(
-                session, ctypes.c_size_t(len(session)), out, ctypes.c_size_t(room), ctypes.byref(status))
+                session, ctypes.c_size_t(len(session)), out, ctypes.c_size_t(room), ctypes.byref(status)
+            )
             if not length:
                 raise _refusal("cannot record", NO_MEMORY)
             if length <= room:
@@ -275,15 +296,20 @@ class Library:
             steps = steps_after(machine, steps, most, time.monotonic() - start)
         return sent
 
-    def search(
-        self, machine: Machine, inputs: Inputs, to: int, conditions: ctypes.Array, wanted: int
-    ) -> tuple[int, int] | None:
+    def search(self, machine: Machine, inputs: Inputs, to: int, conditions: ctypes.Array, wanted: int) -> tuple[int, int] | None:
         """The first or the last count, from a machine's up to another, at which one of these conditions holds, and the
         index of the first that does; None if none holds. One call takes all of this: so give it a slice."""
         due, hit = inputs.raw(machine.count, to), RawHit()
         code = self.calls.galluspa_find(
-            ctypes.byref(machine.state), machine.words, ctypes.c_size_t(WORDS), due, ctypes.c_size_t(len(due)),
-            ctypes.c_uint64(to), conditions, ctypes.c_size_t(len(conditions)), ctypes.c_uint32(wanted),
+            ctypes.byref(machine.state),
+            machine.words,
+            ctypes.c_size_t(WORDS),
+            due,
+            ctypes.c_size_t(len(due)),
+            ctypes.c_uint64(to),
+            conditions,
+            ctypes.c_size_t(len(conditions)),
+            ctypes.c_uint32(wanted),
             ctypes.byref(hit),
         )
         if code == NOT_FOUND:
@@ -299,8 +325,16 @@ class Library:
         visits, departures = (Counts.from_buffer(it) for it in (counted.visits, counted.departures))
         due = inputs.raw(machine.count, to)
         code = self.calls.galluspa_profile(
-            ctypes.byref(machine.state), machine.words, ctypes.c_size_t(WORDS), due, ctypes.c_size_t(len(due)),
-            ctypes.c_uint64(to), visits, ctypes.c_size_t(WORDS), departures, ctypes.c_size_t(WORDS),
+            ctypes.byref(machine.state),
+            machine.words,
+            ctypes.c_size_t(WORDS),
+            due,
+            ctypes.c_size_t(len(due)),
+            ctypes.c_uint64(to),
+            visits,
+            ctypes.c_size_t(WORDS),
+            departures,
+            ctypes.c_size_t(WORDS),
         )
         if code:
             raise _refusal(f"cannot count from {machine.count} to {to}", code)
@@ -311,8 +345,13 @@ class Library:
         this, so give it a slice."""
         processors, due = (RawProcessor * number)(), inputs.raw(machine.count, machine.count + number)
         code = self.calls.galluspa_steps(
-            ctypes.byref(machine.state), machine.words, ctypes.c_size_t(WORDS), due, ctypes.c_size_t(len(due)),
-            processors, ctypes.c_size_t(number),
+            ctypes.byref(machine.state),
+            machine.words,
+            ctypes.c_size_t(WORDS),
+            due,
+            ctypes.c_size_t(len(due)),
+            processors,
+            ctypes.c_size_t(number),
         )
         if code:
             raise _refusal(f"cannot trace {number} counts from {machine.count} on", code)
@@ -323,8 +362,15 @@ class Library:
         room = ctypes.create_string_buffer(max(min(to - machine.count, SENT_AT_ONCE), 1))
         due, length = inputs.raw(machine.count, to), ctypes.c_size_t()
         code = self.calls.galluspa_advance(
-            ctypes.byref(machine.state), machine.words, ctypes.c_size_t(WORDS), due, ctypes.c_size_t(len(due)),
-            ctypes.c_uint64(to), room, ctypes.c_size_t(len(room)), ctypes.byref(length),
+            ctypes.byref(machine.state),
+            machine.words,
+            ctypes.c_size_t(WORDS),
+            due,
+            ctypes.c_size_t(len(due)),
+            ctypes.c_uint64(to),
+            room,
+            ctypes.c_size_t(len(room)),
+            ctypes.byref(length),
         )
         if code == NO_ROOM and to - machine.count > len(room):
             return None

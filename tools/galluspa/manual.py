@@ -15,10 +15,19 @@ def page(commands: Iterable[Command], date: str) -> str:
     """Returns the manual page of these subcommands, a section each."""
     there = list(commands)
     lines = [
-        f".Dd {date}", f".Dt {NAME.upper()} 1", ".Os", ".Sh NAME", f".Nm {NAME}",
+        f".Dd {date}",
+        f".Dt {NAME.upper()} 1",
+        ".Os",
+        ".Sh NAME",
+        f".Nm {NAME}",
         ".Nd emulator, recorder and checker of Project Oberon's workstation",
-        ".Sh SYNOPSIS", ".Nm", ".Ar COMMAND ..", ".Nm", ".Ar FILE ..",
-        ".Sh DESCRIPTION", *_prose(ABOUT),
+        ".Sh SYNOPSIS",
+        ".Nm",
+        ".Ar COMMAND ..",
+        ".Nm",
+        ".Ar FILE ..",
+        ".Sh DESCRIPTION",
+        *_prose(ABOUT),
         *_prose(f"`{NAME} FILE ..` prints the verdict lines of recordings, as `{NAME} check FILE ..` does."),
         *_prose(f"`{NAME} COMMAND --help` prints the usage of a command, and `{NAME} --version` the version."),
     ]
@@ -28,12 +37,20 @@ def page(commands: Iterable[Command], date: str) -> str:
             lines += [line for it in rows for line in (f".It Cm {it.name}", *_prose(it.does))]
             lines += [".El"]
     lines += [".Sh COMMANDS", *(line for it in there for line in _section(it.full_name, it.parser()))]
-    return "\n".join([
-        *lines, ".Sh ENVIRONMENT", *_listed([("Ev GALLUSPA_LIBRARY", "The shared library to call, libgalluspa.so.")]),
-        ".Sh EXIT STATUS", *_listed((str(number), _sentence(it)) for number, it in {**STATUSES, **SIGNALS}.items()),
-        ".Pp", *_prose("A line on standard error says why an argument is refused, or what fails."),
-        ".Sh SEE ALSO", ".Xr oberon_replay 1", "",
-    ])
+    return "\n".join(
+        [
+            *lines,
+            ".Sh ENVIRONMENT",
+            *_listed([("Ev GALLUSPA_LIBRARY", "The shared library to call, libgalluspa.so.")]),
+            ".Sh EXIT STATUS",
+            *_listed((str(number), _sentence(it)) for number, it in {**STATUSES, **SIGNALS}.items()),
+            ".Pp",
+            *_prose("A line on standard error says why an argument is refused, or what fails."),
+            ".Sh SEE ALSO",
+            ".Xr oberon_replay 1",
+            "",
+        ]
+    )
 
 
 def _section(name: str, parser: Parser) -> Iterator[str]:
@@ -135,12 +152,14 @@ def completion(commands: Iterable[Command], of_program: Mapping[str, list[str]],
     there = list(commands)
     for it in there:
         options[it.name] = [option for action in it.parser()._actions for option in action.option_strings]
-    cases = (f"        {name}) COMPREPLY=($(compgen -W '{' '.join(words)}' -- \"$word\")) ;;"
-             for name, words in options.items() if words)
+    cases = (
+        f"        {name}) COMPREPLY=($(compgen -W '{' '.join(words)}' -- \"$word\")) ;;" for name, words in options.items() if words
+    )
     replaced = {
         "@PROGRAM@": " ".join([*of_program, "help", "--help"]),
         "@WORDS@": " ".join([*(it.name for it in there), "help", "--version", "--help"]),
-        "@CASES@": "\n".join(cases), "@NAMES@": " ".join(["oberon_replay", NAME, *also]),
+        "@CASES@": "\n".join(cases),
+        "@NAMES@": " ".join(["oberon_replay", NAME, *also]),
     }
     text = COMPLETION
     for mark, value in replaced.items():

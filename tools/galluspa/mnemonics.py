@@ -12,8 +12,7 @@ from galluspa.tokens import Kind, Token, Wrong, tokens_of
 REGISTER = re.compile(r"R(1[0-5]|[0-9])", re.IGNORECASE)
 SPECIALS = {"H": 0, "NZCV": V}
 MEMORY = {"LDR": (load, 0), "LDB": (load, BYTE), "STR": (store, 0), "STB": (store, BYTE)}
-BRANCHES = {f"B{link}{name}": (number, LINK if link else 0) for link in ("", "L")
-            for number, name in enumerate(CONDITIONS)}
+BRANCHES = {f"B{link}{name}": (number, LINK if link else 0) for link in ("", "L") for number, name in enumerate(CONDITIONS)}
 # The machine takes 22 bits of an offset. An offset below 0 is written with 24, as Project Oberon's compiler writes it.
 WIDENED = 3 << 22
 MNEMONICS = frozenset((*OPERATIONS, *(f"{name}'" for name in OPERATIONS), *MEMORY, *BRANCHES))
@@ -37,7 +36,10 @@ def register_of(name: str) -> int | None:
 
 
 def operand_of(
-    tokens: Sequence[Token], column: int, names: Names, here: int,
+    tokens: Sequence[Token],
+    column: int,
+    names: Names,
+    here: int,
     registers: Callable[[str], int | None] = register_of,
 ) -> Operand:
     """The operand that tokens write; `column` is that of its end."""
@@ -64,8 +66,7 @@ def _expect(name: Token, operands: Sequence[Operand], form: str) -> None:
     number = form.count(",") + 1
     if len(operands) != number:
         noun = "operand" if number == 1 else "operands"
-        raise Wrong(name.column, f"{name.text} needs {number} {noun} and has {len(operands) or 'none'}: "
-                                 f"{name.text} {form}")
+        raise Wrong(name.column, f"{name.text} needs {number} {noun} and has {len(operands) or 'none'}: " f"{name.text} {form}")
 
 
 def _register(operand: Operand) -> int:

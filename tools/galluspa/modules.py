@@ -62,8 +62,10 @@ def _module(memory: bytes, at: int) -> Module:
     name = _name(memory[at : at + NAME_BYTES], f"the descriptor at {at:X} (hexadecimal) has no name of a module")
     _, _, _, _, _, data, code, end, commands, *_ = WORDS.unpack_from(memory, at + NAME_BYTES)
     if not data <= code <= end <= MEMORY_BYTES or code % 4 or code >= MEMORY_BYTES:
-        raise Refused(f"module {name}: data, code and imports at {data:X}, {code:X} and {end:X} (hexadecimal) are not "
-                      "in this order in memory")
+        raise Refused(
+            f"module {name}: data, code and imports at {data:X}, {code:X} and {end:X} (hexadecimal) are not "
+            "in this order in memory"
+        )
     return Module(name, data, code, end, tuple(_commands(memory, name, commands, range(code, end))))
 
 

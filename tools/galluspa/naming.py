@@ -97,8 +97,12 @@ def named_object(step: Step, symbols: Symbols) -> dict[str, object]:
     if not symbols:
         return as_object(step)
     at = 4 * step.before.pc
-    names = {"PC": symbols.text(at), "source": symbols.source(at), "target": _target(step, symbols),
-             "address": _accessed(step, symbols)}
+    names = {
+        "PC": symbols.text(at),
+        "source": symbols.source(at),
+        "target": _target(step, symbols),
+        "address": _accessed(step, symbols),
+    }
     return {**as_object(step), "names": {part: name for part, name in names.items() if name}}
 
 

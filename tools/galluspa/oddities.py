@@ -24,17 +24,19 @@ def oddities(session: Session, address: int) -> Iterator[str]:
     if session.pc % 4 == 0 and first <= session.pc < end and is_code(words, session.pc // 4, first):
         as_bytes = f"; if it is a byte address, use PC={session.pc // 4:,}"
     if at >= MEMORY_BYTES:
-        yield (f"PC is {session.pc:,}, beyond the memory of {MEMORY_BYTES // 4:,} words: the machine stops at "
-               f"once{as_bytes}")
+        yield (f"PC is {session.pc:,}, beyond the memory of {MEMORY_BYTES // 4:,} words: the machine stops at " f"once{as_bytes}")
     elif not first <= at < end:
-        yield (f"PC is {session.pc:,} (it counts words), which is byte {at:X}, outside the image of the bytes "
-               f"{first:X} to {end - 1:X} (hexadecimal){as_bytes}")
+        yield (
+            f"PC is {session.pc:,} (it counts words), which is byte {at:X}, outside the image of the bytes "
+            f"{first:X} to {end - 1:X} (hexadecimal){as_bytes}"
+        )
     elif not any(session.memory[at : at + 4]):
-        yield (f"PC is {session.pc:,} (it counts words), which is byte {at:X} (hexadecimal), and the word there is "
-               f"0{as_bytes}")
+        yield (f"PC is {session.pc:,} (it counts words), which is byte {at:X} (hexadecimal), and the word there is " f"0{as_bytes}")
     elif is_code(other, session.pc, first) and not is_code(words, session.pc, first, FEW):
-        yield ("the words from PC on look like instructions only if the highest byte of each comes first: use an "
-               "image with the lowest byte first")
+        yield (
+            "the words from PC on look like instructions only if the highest byte of each comes first: use an "
+            "image with the lowest byte first"
+        )
     elif as_bytes and not is_code(words, session.pc, first, FEW):
         yield f"PC is {session.pc:,} (it counts words), and what is there does not look like instructions{as_bytes}"
 

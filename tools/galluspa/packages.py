@@ -27,8 +27,23 @@ exec "$(dirname "$(readlink -f "$0")")/galluspa" {name} "$@"
 """
 # The subcommands that were commands of their own.
 EARLIER_COMMANDS = (
-    "assemble", "bisect", "claim", "coverage", "diff", "explain", "film", "find", "join", "listing", "output",
-    "recording-of", "report", "session", "slice", "suite", "trace",
+    "assemble",
+    "bisect",
+    "claim",
+    "coverage",
+    "diff",
+    "explain",
+    "film",
+    "find",
+    "join",
+    "listing",
+    "output",
+    "recording-of",
+    "report",
+    "session",
+    "slice",
+    "suite",
+    "trace",
 )
 LIBRARIES = ("libgalluspa.a", "libgalluspa.so")
 BUILT = ("crates/galluspa/out", "out/lib")
@@ -74,8 +89,7 @@ def library_folder(given: Path | None) -> Path:
         if all((folder / name).is_file() for name in LIBRARIES):
             return folder
     names = " and ".join(LIBRARIES)
-    raise Refused(
-        f"{names} are not in {folders[0]}: build them (examples/c/install FOLDER), and name FOLDER/lib with --library")
+    raise Refused(f"{names} are not in {folders[0]}: build them (examples/c/install FOLDER), and name FOLDER/lib with --library")
 
 
 @dataclass(frozen=True)

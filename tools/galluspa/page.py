@@ -54,7 +54,6 @@ class Shown:
     picture: str
     is_small: bool
 
-
     @property
     def is_unchanged(self) -> bool:
         """Whether nothing changed since the checkpoint before but the count."""
@@ -93,8 +92,11 @@ class Moment:
         pairs = zip(states.REGISTERS, state.registers, strict=True)
         held = ((name, inspection.held_name(name, value, symbols)) for name, value in pairs)
         return Moment(
-            count=count, status=inspection.status_line(state), registers=states.registers(state, None),
-            others=states.others(state, None, 2), next=placed_lines(step, symbols) if step else [],
+            count=count,
+            status=inspection.status_line(state),
+            registers=states.registers(state, None),
+            others=states.others(state, None, 2),
+            next=placed_lines(step, symbols) if step else [],
             names=[f"{name} {text}" for name, text in held if text],
             callers=inspection.callers_line(machine, inspection.callers_in(machine, symbols)) if symbols else "",
             picture=base64.b64encode(picture(inspection.screen_of(machine, program))).decode(),
@@ -144,9 +146,7 @@ class Report:
     at: int | None = None
 
     @staticmethod
-    def of(
-        program: Program, name: str, text: bytes, library: str | None = None, symbols: Symbols = NONE
-    ) -> "Report":
+    def of(program: Program, name: str, text: bytes, library: str | None = None, symbols: Symbols = NONE) -> "Report":
         """The report on a text, after the program has judged it, or had no time to; the library, if it is found,
         says what is false. Names are shown beside the addresses that they stand for."""
         try:

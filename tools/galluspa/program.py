@@ -65,8 +65,9 @@ class Program:
         """The program that was given, or else the one that was built in this clone, or installed with these tools."""
         path = Path(given) if given else places.program()
         if not path:
-            raise Refused("there is no program oberon_replay: build it (rt run in crates/oberon_replay), or name one "
-                          "with --program")
+            raise Refused(
+                "there is no program oberon_replay: build it (rt run in crates/oberon_replay), or name one " "with --program"
+            )
         if not path.is_file() or not os.access(path, os.X_OK):
             raise Refused(f"no program at {path}")
         return Program(path.resolve(), limit)

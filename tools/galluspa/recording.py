@@ -35,8 +35,12 @@ _EVENT = struct.Struct("<QII")
 # changes follow both in version 2.
 STATE_WORDS = ("h", "pc", "flags", "stop", "timer", "switches", "leds", "mouse", "serial")
 _FIXED_FIELDS = {
-    "count": "Q", "registers": "16I", **dict.fromkeys(STATE_WORDS, "I"),
-    "key_count": "I", "keys": "16s", "output_length": "I",
+    "count": "Q",
+    "registers": "16I",
+    **dict.fromkeys(STATE_WORDS, "I"),
+    "key_count": "I",
+    "keys": "16s",
+    "output_length": "I",
 }
 _TIMER_FIELDS = {"rate": "I", "phase": "I", "change_count": "I"}
 _FIXED, _TIMER = (struct.Struct("<" + "".join(fields.values())) for fields in (_FIXED_FIELDS, _TIMER_FIELDS))
@@ -219,9 +223,7 @@ def _with_output(text: bytes, claims: list[_Claim]) -> Iterator[Checkpoint]:
 
 def write(recording: Recording) -> bytes:
     """Encodes a recording in its version; in version 1 there is no place for rate and phase."""
-    header = _HEADER.pack(
-        b"ORSR", recording.version, recording.pages, len(recording.events), len(recording.checkpoints), 0
-    )
+    header = _HEADER.pack(b"ORSR", recording.version, recording.pages, len(recording.events), len(recording.checkpoints), 0)
     events = [_EVENT.pack(event.count, event.kind, event.value) for event in recording.events]
     claims, before = [], NO_TABLE
     for checkpoint in recording.checkpoints:

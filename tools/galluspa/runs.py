@@ -102,12 +102,14 @@ def changes(before: Run, after: Run) -> list[Change]:
     both = [(name, before[name], it) for name, it in after.items() if name in before]
     return [
         *(Change("changed", name, _told_change(old, new)) for name, old, new in both if old.answered != new.answered),
-        *(Change("rewritten", name, "other bytes, the same answer")
-          for name, old, new in both if _is_rewritten(old, new)),
+        *(Change("rewritten", name, "other bytes, the same answer") for name, old, new in both if _is_rewritten(old, new)),
         *(Change("new", name, it.answered) for name, it in after.items() if name not in before),
         *(Change("gone", name, it.answered) for name, it in before.items() if name not in after),
-        *(Change("slower", name, f"{new.seconds:.2f} s, was {old.seconds:.2f} s")
-          for name, old, new in both if _is_slower(old, new)),
+        *(
+            Change("slower", name, f"{new.seconds:.2f} s, was {old.seconds:.2f} s")
+            for name, old, new in both
+            if _is_slower(old, new)
+        ),
     ]
 
 
@@ -130,7 +132,10 @@ def junit(suite: str, outcomes: Sequence[Outcome]) -> bytes:
     errors = sum(it.is_error for it in outcomes)
     wrong = sum(not it.is_ok for it in outcomes) - errors
     counted = {
-        "name": _in_xml(suite), "tests": str(len(outcomes)), "failures": str(wrong), "errors": str(errors),
+        "name": _in_xml(suite),
+        "tests": str(len(outcomes)),
+        "failures": str(wrong),
+        "errors": str(errors),
         "time": seconds,
     }
     top = ElementTree.Element("testsuites")

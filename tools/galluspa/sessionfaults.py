@@ -31,9 +31,13 @@ RECORD_LINES = {
     "record refused 1 output": "a recording has at most 1,048,576 bytes sent, and the session sends more",
     "record refused 2 pages": "a recording has at most 65,536 pages, and that of the session has more",
 }
-NAMES = {1: "it is JSON", 2: "it has the members and types of a session", 3: "its numbers are in their ranges",
-         4: "page slots rise, counts of inputs do not fall, counts of checkpoints rise",
-         5: "each hex is an even number of hexadecimal digits"}
+NAMES = {
+    1: "it is JSON",
+    2: "it has the members and types of a session",
+    3: "its numbers are in their ranges",
+    4: "page slots rise, counts of inputs do not fall, counts of checkpoints rise",
+    5: "each hex is an even number of hexadecimal digits",
+}
 
 
 @dataclass(frozen=True)

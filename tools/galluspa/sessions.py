@@ -40,16 +40,18 @@ class Session:
         counting = {"rate": self.rate, "phase": self.phase} if self.rate else {}
         start = {"R": self.registers, "H": self.h, "PC": self.pc, "flags": self.flags, **counting}
         inputs = [json.dumps([event.count, KINDS[event.kind], event.value]) for event in self.inputs]
-        return "\n".join([
-            "{",
-            '  "format": "oberon-session",',
-            f'  "version": {2 if counting else 1},',
-            f'  "start": {json.dumps(start)},',
-            f'  "pages": {_rows(_pages(self.memory), 1)},',
-            f'  "inputs": {_rows(inputs, 8)},',
-            f'  "checkpoints": {_rows([str(count) for count in self.checkpoints], 16)}',
-            "}\n",
-        ])
+        return "\n".join(
+            [
+                "{",
+                '  "format": "oberon-session",',
+                f'  "version": {2 if counting else 1},',
+                f'  "start": {json.dumps(start)},',
+                f'  "pages": {_rows(_pages(self.memory), 1)},',
+                f'  "inputs": {_rows(inputs, 8)},',
+                f'  "checkpoints": {_rows([str(count) for count in self.checkpoints], 16)}',
+                "}\n",
+            ]
+        )
 
 
 def _pages(memory: bytes) -> list[str]:
@@ -71,8 +73,13 @@ def of_recording(name: str, read: Recording) -> Session:
     inexpressible = [
         what
         for what, value in (
-            ("stop", first.stop), ("timer", first.timer), ("switches", first.switches), ("LEDs", first.leds),
-            ("mouse", first.mouse), ("serial", first.serial), ("keys", len(first.keys)),
+            ("stop", first.stop),
+            ("timer", first.timer),
+            ("switches", first.switches),
+            ("LEDs", first.leds),
+            ("mouse", first.mouse),
+            ("serial", first.serial),
+            ("keys", len(first.keys)),
         )
         if value
     ]
@@ -107,8 +114,14 @@ def session_from(state: Checkpoint, memory: bytes, inputs: Sequence[Event], numb
     if len(first) + len(later) > INPUTS:
         return None
     return Session(
-        registers=list(state.registers), h=state.h, pc=state.pc, flags=state.flags, rate=state.rate, phase=state.phase,
-        memory=memory, inputs=[*(Event(0, kind, value) for kind, value in first), *later],
+        registers=list(state.registers),
+        h=state.h,
+        pc=state.pc,
+        flags=state.flags,
+        rate=state.rate,
+        phase=state.phase,
+        memory=memory,
+        inputs=[*(Event(0, kind, value) for kind, value in first), *later],
         checkpoints=list(range(1, number + 1)),
     )
 
@@ -116,8 +129,7 @@ def session_from(state: Checkpoint, memory: bytes, inputs: Sequence[Event], numb
 def image_at(name: str, image: bytes, address: int) -> bytes:
     """A memory that begins with zeros and has an image from a byte address on."""
     if address + len(image) > MEMORY_BYTES:
-        raise Refused(
-            f"{name}: {len(image):,} bytes from {address:X} on go beyond the memory of {MEMORY_BYTES:,} bytes")
+        raise Refused(f"{name}: {len(image):,} bytes from {address:X} on go beyond the memory of {MEMORY_BYTES:,} bytes")
     return bytes(address) + image
 
 
@@ -170,6 +182,8 @@ def _input(where: str, cells: list[str], least: int) -> Event:
     if kind not in KIND_NUMBERS:
         raise Refused(f"{where}: {cells[1]!r} is none of {', '.join(MOST)}")
     if value is None or value > MOST[kind] or kind == "mouse" and value & ~MOUSE:
-        raise Refused(f"{where}: {cells[2]!r} is not a value for {kind}: 0 to {MOST[kind]:X} (hexadecimal)"
-                      + (", and no bit but of this mask" if kind == "mouse" else ""))
+        raise Refused(
+            f"{where}: {cells[2]!r} is not a value for {kind}: 0 to {MOST[kind]:X} (hexadecimal)"
+            + (", and no bit but of this mask" if kind == "mouse" else "")
+        )
     return Event(count, KIND_NUMBERS[kind], value)

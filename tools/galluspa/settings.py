@@ -9,7 +9,19 @@ from galluspa.recording import FLAGS, Event
 from galluspa.sessions import CHECKPOINTS as MOST_CHECKPOINTS
 from galluspa.sessions import COUNTS, INPUTS, KIND_NUMBERS, MEMORY_BYTES, MOST, MOUSE, Session
 from galluspa.statements import (
-    CHECKPOINTS, EVERY, INPUT, INSTRUCTION, PHASE, RATE, SET, SETTINGS, START, UNTIL, Argument, Statement, content,
+    CHECKPOINTS,
+    EVERY,
+    INPUT,
+    INSTRUCTION,
+    PHASE,
+    RATE,
+    SET,
+    SETTINGS,
+    START,
+    UNTIL,
+    Argument,
+    Statement,
+    content,
     is_string,
 )
 from galluspa.tokens import Wrong
@@ -191,6 +203,12 @@ def _once(it: Assembly, before: Statement | None, statement: Statement) -> None:
 
 
 SETTERS: dict[str, Callable[[Assembly, Settings, Statement], None]] = {
-    START: _start, SET: _set, RATE: _rate, PHASE: _phase, INPUT: _input, CHECKPOINTS: _checkpoints, EVERY: _every,
+    START: _start,
+    SET: _set,
+    RATE: _rate,
+    PHASE: _phase,
+    INPUT: _input,
+    CHECKPOINTS: _checkpoints,
+    EVERY: _every,
     UNTIL: _until,
 }

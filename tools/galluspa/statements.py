@@ -11,7 +11,14 @@ CONSTANT, INSTRUCTION, ORIGIN, OFFSETS = "=", "instruction", "origin", "offsets"
 WORD, BYTE, STRING = "word", "byte", "string"
 INCLUDE = "include"
 START, SET, RATE, PHASE, INPUT, CHECKPOINTS, EVERY, UNTIL = SETTINGS = (
-    "start", "set", "rate", "phase", "input", "checkpoints", "every", "until",
+    "start",
+    "set",
+    "rate",
+    "phase",
+    "input",
+    "checkpoints",
+    "every",
+    "until",
 )
 DIRECTIVES = frozenset((ORIGIN, OFFSETS, WORD, BYTE, STRING, INCLUDE, *SETTINGS))
 # What a statement may be meant to begin with, in the order in which it is suggested.

@@ -8,8 +8,17 @@ from galluspa.recording import FLAGS, KINDS, PLACES, STOPS, Checkpoint, Event
 REGISTERS = [f"R{at}" for at in range(16)]
 # The parts of a state that are one word, in the order of parts: how the program names them, and their attributes here.
 WORDS = {
-    "H": "h", "PC": "pc", "flags": "flags", "stop": "stop", "timer": "timer", "rate": "rate", "phase": "phase",
-    "switches": "switches", "LEDs": "leds", "mouse": "mouse", "serial": "serial",
+    "H": "h",
+    "PC": "pc",
+    "flags": "flags",
+    "stop": "stop",
+    "timer": "timer",
+    "rate": "rate",
+    "phase": "phase",
+    "switches": "switches",
+    "LEDs": "leds",
+    "mouse": "mouse",
+    "serial": "serial",
 }
 
 # What a verdict line may name as the part that differs.
@@ -57,9 +66,7 @@ def others(checkpoint: Checkpoint, before: Checkpoint | None, version: int) -> l
     """H, PC, the flags, the stop and the devices; rate and phase if the version has them."""
     olds = dict(_others(before or checkpoint))
     return [
-        Part(name, text, text != olds[name])
-        for name, text in _others(checkpoint)
-        if version > 1 or name not in ("rate", "phase")
+        Part(name, text, text != olds[name]) for name, text in _others(checkpoint) if version > 1 or name not in ("rate", "phase")
     ]
 
 

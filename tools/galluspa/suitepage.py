@@ -28,20 +28,22 @@ class Shown:
     changes: list[str]
 
 
-def page(
-    program: Program, name: str, outcomes: Sequence[Outcome], jobs: int, changes: list[Change] | None
-) -> Iterator[str]:
+def page(program: Program, name: str, outcomes: Sequence[Outcome], jobs: int, changes: list[Change] | None) -> Iterator[str]:
     """The page, piece by piece: what is not as expected comes first."""
     wrong = sum(not it.is_ok for it in outcomes)
     headline = f"{len(outcomes) - wrong} of {len(outcomes)} as expected"
     ordered = sorted(outcomes, key=lambda it: it.is_ok)
-    return templates().get_template("suite.html.j2").generate(
-        name=name,
-        headline=headline,
-        is_good=not wrong,
-        seconds=f"{sum(it.seconds for it in outcomes):.1f}",
-        changes=changes,
-        shown=_shown(program, ordered, jobs, changes or []),
+    return (
+        templates()
+        .get_template("suite.html.j2")
+        .generate(
+            name=name,
+            headline=headline,
+            is_good=not wrong,
+            seconds=f"{sum(it.seconds for it in outcomes):.1f}",
+            changes=changes,
+            shown=_shown(program, ordered, jobs, changes or []),
+        )
     )
 
 

@@ -38,7 +38,8 @@ HEXADECIMAL, BLANKS, END = "([0-9A-Fa-f]{1,16})", " {1,20}", r"[ \t\r]{0,20}$"
 ROWS = re.compile(
     rf"^{HEXADECIMAL}(?:{BLANKS}{HEXADECIMAL})?{BLANKS}(?:([tTdDbBrRaA]){BLANKS}(\S{{1,{LONGEST_NAME}}})"
     rf"(?:\t(.{{1,{LONGEST_FILE}}}):([0-9]{{1,9}}))?|(l){BLANKS}(\S.{{0,{LONGEST_FILE - 1}}}):([0-9]{{1,9}})){END}",
-    re.MULTILINE)
+    re.MULTILINE,
+)
 PASSED_OVER = re.compile(r"^[ \t\r]*(?:#.*)?$", re.MULTILINE)
 FORM = "expected ADDRESS TYPE NAME, perhaps with a SIZE after the address, and with a tab and FILE:LINE at the end"
 # The kinds of characters that are written from right to left.
@@ -94,7 +95,9 @@ class Symbols:
     """
 
     def __init__(
-        self, names: Sequence[tuple[int, Row]] = (), constants: Sequence[tuple[int, Row]] = (),
+        self,
+        names: Sequence[tuple[int, Row]] = (),
+        constants: Sequence[tuple[int, Row]] = (),
         lines: Sequence[tuple[int, Row]] = (),
     ) -> None:
         """Names of code and data, constants, and lines of sources, each with its address, and as it is written."""
@@ -149,8 +152,10 @@ class Symbols:
         if len(starts) < len(self._placed):
             return list(map(self._end, range(len(starts))))
         following = [*starts[1:], WORDS]
-        return [start + int(row[1], 16) if row[1].strip("0") else min(after, start + REACH)
-                for (start, row), after in zip(self._placed, following)]
+        return [
+            start + int(row[1], 16) if row[1].strip("0") else min(after, start + REACH)
+            for (start, row), after in zip(self._placed, following)
+        ]
 
     @cached_property
     def _is_nested(self) -> bool:
@@ -300,8 +305,7 @@ class Symbols:
 
     def addresses_of_line(self, file: str, line: int) -> list[int]:
         """Where the instructions of a line of a source begin. The name of the file may be its end, after a slash."""
-        return [address for address, name, number in self._lines
-                if number == line and (name == file or name.endswith(f"/{file}"))]
+        return [address for address, name, number in self._lines if number == line and (name == file or name.endswith(f"/{file}"))]
 
     def names(self) -> Iterable[str]:
         """All names."""

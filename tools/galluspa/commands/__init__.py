@@ -121,14 +121,16 @@ def parser() -> Parser:
     options = Parser(
         f"{ABOUT}\n\n{_listing()}\n\n`{NAME} help COMMAND` prints the usage of a command.",
         f"{NAME} examples/face.orsr",
-        {OK: "the recording is accepted, or what was asked for is printed", WRONG: "a recording is false",
-         REFUSED: "a file or an argument is refused"},
+        {
+            OK: "the recording is accepted, or what was asked for is printed",
+            WRONG: "a recording is false",
+            REFUSED: "a file or an argument is refused",
+        },
     )
     options.prog = NAME
     options.usage = f"{NAME} COMMAND ..\n       {NAME} FILE .."
     options.add_argument("--version", action=_Version, nargs=0, help="print the version and exit")
-    subcommands = options.add_subparsers(
-        dest="subcommand", metavar="COMMAND", prog=NAME, help=str(SUPPRESS), parser_class=_Unread)
+    subcommands = options.add_subparsers(dest="subcommand", metavar="COMMAND", prog=NAME, help=str(SUPPRESS), parser_class=_Unread)
     for it in commands():
         subcommands.add_parser(it.name)
     return options
@@ -138,8 +140,7 @@ def _listing() -> str:
     """The subcommands, group by group, a line for each."""
     there = commands()
     groups = ((title, [it for it in group if it in there]) for title, group in GROUPS.items())
-    return "\n\n".join(
-        "\n".join([f"{title}:", *(f"  {it.name:15}{it.does}" for it in group)]) for title, group in groups if group)
+    return "\n\n".join("\n".join([f"{title}:", *(f"  {it.name:15}{it.does}" for it in group)]) for title, group in groups if group)
 
 
 def main(arguments: Sequence[str]) -> int:

@@ -19,31 +19,51 @@ from galluspa.reference import reference
 from galluspa.sources import read_sources
 from galluspa.statements import INSTRUCTION, Statement
 from galluspa.symbols import (
-    CODE, CONSTANT, DATA, LONGEST_NAME, MOST_BYTES, MOST_LINES, WORDS, Source, Symbol, written,
+    CODE,
+    CONSTANT,
+    DATA,
+    LONGEST_NAME,
+    MOST_BYTES,
+    MOST_LINES,
+    WORDS,
+    Source,
+    Symbol,
+    written,
 )
 
 
 def parser() -> Parser:
     """The command line of this tool."""
     options = Parser(
-        dedent("""\
+        dedent(
+            """\
             Assembles a source, or several as one program, and prints its session (JSON) for `galluspa record`. It
             reports all mistakes in one run, each with its file, line and column. `galluspa assemble --reference`
-            explains the language."""),
+            explains the language."""
+        ),
         "galluspa assemble examples/hello.asm -o hello.json",
     )
     options.add_argument("files", metavar="FILE", type=Path, nargs="*", help="the sources, one after the other")
     what = options.add_mutually_exclusive_group()
     what.add_argument("-o", "--output", metavar="SESSION", type=Path, help="write the session into a file")
-    what.add_argument("--image", metavar="IMAGE", type=Path,
-                      help="write the memory into a file, from byte 0 to the last that is filled")
-    what.add_argument("--words", action="store_true",
-                      help="print the number of each word, the word, and the line that it comes from, with its number; "
-                           "and each line of labels alone")
-    what.add_argument("--reference", action="store_true",
-                      help="print the page that explains the language, in Markdown; it needs no source")
-    options.add_argument("--symbols", metavar="FILE", type=Path,
-                         help="write a symbol file, too: the labels, the constants, and the line of each instruction")
+    what.add_argument(
+        "--image", metavar="IMAGE", type=Path, help="write the memory into a file, from byte 0 to the last that is filled"
+    )
+    what.add_argument(
+        "--words",
+        action="store_true",
+        help="print the number of each word, the word, and the line that it comes from, with its number; "
+        "and each line of labels alone",
+    )
+    what.add_argument(
+        "--reference", action="store_true", help="print the page that explains the language, in Markdown; it needs no source"
+    )
+    options.add_argument(
+        "--symbols",
+        metavar="FILE",
+        type=Path,
+        help="write a symbol file, too: the labels, the constants, and the line of each instruction",
+    )
     options.add_program_option()
     options.add_library_option()
     options.add_limit_option("look for an end of the run for so many seconds, if the source says `until`")
@@ -108,6 +128,7 @@ def _symbol(it: Assembly, name: str, at: int, size: int, kind: str) -> Symbol:
 
 def symbol_file(it: Assembly) -> bytes:
     """The symbol file of sources: what is too long for one is left out."""
+
     def line_of(statement: Statement) -> Source:
         line = it.source(statement.line)
         return Source(statement.here, line.file, line.number)

@@ -86,23 +86,40 @@ class Search:
 def parser() -> Parser:
     """The command line of this tool."""
     options = Parser(
-        dedent(f"""\
+        dedent(
+            f"""\
             Finds the instruction after which another emulator and the machine differ, and prints both states
             and the trace up to it. COMMAND prints the other emulator's state at a count as JSON; {PLACE} in its
-            arguments stands for the count."""),
+            arguments stands for the count."""
+        ),
         f"galluspa bisect examples/keys.json -- ./state keys.orsr {PLACE} memory.bin",
     )
     options.add_argument("session", metavar="SESSION", type=Path, help="a session, or a recording")
     options.add_argument("command", metavar="COMMAND", nargs="+", help="after --: the command and its arguments")
-    options.add_argument("--to", metavar="N", type=whole_number(1, COUNTS),
-                       help="the last count to try (default: that of the last checkpoint)")
-    options.add_argument("--every", metavar="N", type=whole_number(1, COUNTS),
-                       help="try every N-th count instead of 1, 2, 4, 8 .. and those after the inputs; with 1, which "
-                            f"is the default up to count {SHORT:,}, the tool finds the very first difference")
-    options.add_argument("--steps", metavar="M", type=whole_number(1, 1 << 20), default=STEPS,
-                       help=f"print the last M instructions up to it (default {STEPS})")
-    options.add_argument("--seconds", metavar="S", type=whole_number(1, 1 << 20), default=SECONDS,
-                       help=f"how many seconds COMMAND may take each time (default {SECONDS})")
+    options.add_argument(
+        "--to", metavar="N", type=whole_number(1, COUNTS), help="the last count to try (default: that of the last checkpoint)"
+    )
+    options.add_argument(
+        "--every",
+        metavar="N",
+        type=whole_number(1, COUNTS),
+        help="try every N-th count instead of 1, 2, 4, 8 .. and those after the inputs; with 1, which "
+        f"is the default up to count {SHORT:,}, the tool finds the very first difference",
+    )
+    options.add_argument(
+        "--steps",
+        metavar="M",
+        type=whole_number(1, 1 << 20),
+        default=STEPS,
+        help=f"print the last M instructions up to it (default {STEPS})",
+    )
+    options.add_argument(
+        "--seconds",
+        metavar="S",
+        type=whole_number(1, 1 << 20),
+        default=SECONDS,
+        help=f"how many seconds COMMAND may take each time (default {SECONDS})",
+    )
     options.add_symbols_option()
     options.add_program_option()
     options.add_library_option()
@@ -230,8 +247,10 @@ def main(asked: Namespace) -> int:
     search = Search(looked_at, Emulator(asked.command, asked.seconds), looked_at.machine(0))
     search.is_same(0)
     if search.parted:
-        raise Refused(f"the emulator and the machine differ at count 0, in {', '.join(search.parted.names)}: begin "
-                      "with the session's initial state")
+        raise Refused(
+            f"the emulator and the machine differ at count 0, in {', '.join(search.parted.names)}: begin "
+            "with the session's initial state"
+        )
     inputs = [event.count for event in read.events if event.count < to] if is_doubling(to, asked.every) else []
     tried = some_of(inputs)
     parted = search.narrow(counts_of(to, asked.every, tried))

@@ -129,9 +129,7 @@ def build_below(crates: Sequence[str]) -> None:
         called(["rt", "lib"], CRATES / name)
 
 
-def compile_crate(
-    known: dict[str, list[str]], crates: Sequence[str], kit_folder: Path, folder: Path, keeps: Sequence[str]
-) -> Path:
+def compile_crate(known: dict[str, list[str]], crates: Sequence[str], kit_folder: Path, folder: Path, keeps: Sequence[str]) -> Path:
     """Proves and compiles the crate over the built libraries below, keeps its bitcode, and returns the archive that
     rattle made. `keeps` are the arguments that say where rattle keeps what it proved."""
     compiled, kept = folder / "compiled.a", folder / "kept.bc"
@@ -165,8 +163,7 @@ def build(known: dict[str, list[str]], crates: Sequence[str], keeps: Sequence[st
 
 def parser() -> Parser:
     """The command line of this tool."""
-    options = Parser(
-        "Proves the library for C and builds it: static, shared, and as LLVM bitcode.", "galluspa build-library")
+    options = Parser("Proves the library for C and builds it: static, shared, and as LLVM bitcode.", "galluspa build-library")
     options.add_argument("--as-built", action="store_true", help="use the libraries below as rt ci has just built them")
     return options
 

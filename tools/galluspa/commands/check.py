@@ -16,20 +16,28 @@ MOST_WORKERS = 64
 def parser() -> Parser:
     """The command line of this tool."""
     options = Parser(
-        dedent("""\
+        dedent(
+            """\
             Replays each recording and prints its verdict line, with the name of the file before it if there are
-            several. Lines on standard error explain a refusal."""),
+            several. Lines on standard error explain a refusal."""
+        ),
         "galluspa check --workers 4 examples/face.orsr",
-        {OK: "all recordings are accepted", WRONG: "a recording is false, and none is refused",
-         REFUSED: "a recording, a file or an argument is refused", WORDS_REFUSED: "the program refuses its arguments"},
+        {
+            OK: "all recordings are accepted",
+            WRONG: "a recording is false, and none is refused",
+            REFUSED: "a recording, a file or an argument is refused",
+            WORDS_REFUSED: "the program refuses its arguments",
+        },
     )
     options.is_intermixed = True
-    options.add_argument("files", metavar="RECORDING", type=Path, nargs="*",
-                         help="the recordings (default: standard input)")
-    options.add_argument("--workers", metavar="N", default=str(min(os.cpu_count() or 1, MOST_WORKERS)),
-                         help="replay segments in N threads, from 1 to 64 (default: as many as there are processors)")
-    options.add_argument("--cut", metavar="N",
-                         help="let a thread take N segments in a row at once, from 1 to 4096 (default 1)")
+    options.add_argument("files", metavar="RECORDING", type=Path, nargs="*", help="the recordings (default: standard input)")
+    options.add_argument(
+        "--workers",
+        metavar="N",
+        default=str(min(os.cpu_count() or 1, MOST_WORKERS)),
+        help="replay segments in N threads, from 1 to 64 (default: as many as there are processors)",
+    )
+    options.add_argument("--cut", metavar="N", help="let a thread take N segments in a row at once, from 1 to 4096 (default 1)")
     options.add_program_option()
     return options
 

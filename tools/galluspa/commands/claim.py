@@ -13,14 +13,18 @@ from galluspa.states import REGISTERS, WORDS
 
 def parser() -> Parser:
     """The command line of this tool."""
-    options = Parser("Prints a recording with one claim changed: a part of a checkpoint claims another value.",
-                   "galluspa claim examples/face.orsr --at 1 --set R5=9 > false.orsr")
+    options = Parser(
+        "Prints a recording with one claim changed: a part of a checkpoint claims another value.",
+        "galluspa claim examples/face.orsr --at 1 --set R5=9 > false.orsr",
+    )
     options.add_argument("recording", metavar="RECORDING", type=Path)
-    options.add_argument("--at", metavar="K", type=whole_number(0, 4096), required=True,
-                         help="the number of the checkpoint")
-    options.add_argument("--set", metavar="NAME=VALUE", required=True,
-                       help="R0 to R15, H, PC, flags, stop, timer, rate, phase, switches, LEDs, mouse or serial, and "
-                            "what it claims")
+    options.add_argument("--at", metavar="K", type=whole_number(0, 4096), required=True, help="the number of the checkpoint")
+    options.add_argument(
+        "--set",
+        metavar="NAME=VALUE",
+        required=True,
+        help="R0 to R15, H, PC, flags, stop, timer, rate, phase, switches, LEDs, mouse or serial, and " "what it claims",
+    )
     options.add_program_option()
     return options
 
@@ -44,8 +48,7 @@ def main(asked: Namespace) -> int:
         names = ", ".join((*REGISTERS, *WORDS))
         raise Refused(f"--set {asked.set}: give one of {names}, an equals sign and a number below 2^32")
     if read.version == 1 and name in ("rate", "phase"):
-        raise Refused(f"{asked.recording}: a recording of version 1 claims no {name} "
-                      "(galluspa migrate makes version 2)")
+        raise Refused(f"{asked.recording}: a recording of version 1 claims no {name} " "(galluspa migrate makes version 2)")
     if asked.at >= len(read.checkpoints):
         raise Refused(f"{asked.recording}: no checkpoint {asked.at}")
     read.checkpoints[asked.at] = claiming(read.checkpoints[asked.at], name, value)

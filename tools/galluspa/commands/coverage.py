@@ -24,16 +24,23 @@ from galluspa.suites import Case, cases_of
 def parser() -> Parser:
     """The command line of this tool."""
     options = Parser(
-        dedent("""\
+        dedent(
+            """\
             Prints what the recordings (*.orsr) under folders exercise: operations with their modifiers, results
             and flags, branches both ways, addresses, device words, inputs and stops; and what nothing
             exercises. This is coverage of the machine's instruction set; `galluspa executed` reports which
-            procedures and lines of the recorded program a suite executes, its code coverage."""),
+            procedures and lines of the recorded program a suite executes, its code coverage."""
+        ),
         "galluspa coverage examples/suite",
     )
     options.add_argument("folders", metavar="SUITE", type=Path, nargs="+", help="a folder of recordings")
-    options.add_argument("--steps", metavar="N", type=whole_number(1, 10_000_000), default=20_000,
-                       help="examine at most N instructions of a recording (default 20,000)")
+    options.add_argument(
+        "--steps",
+        metavar="N",
+        type=whole_number(1, 10_000_000),
+        default=20_000,
+        help="examine at most N instructions of a recording (default 20,000)",
+    )
     options.add_argument("--tables", action="store_true", help="print each table, with how often each item was seen")
     options.add_argument("--page", metavar="FILE", help="write the tables as one page (HTML)")
     options.add_limit_option("end after so many seconds, and name the recordings that were not examined by then")

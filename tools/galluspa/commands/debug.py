@@ -35,29 +35,58 @@ def parser() -> Parser:
     """The command line of this tool."""
     listed = "\n".join(f"  {f'{it.name} {it.arguments}'.rstrip():28}{it.does}" for it in COMMANDS)
     options = Parser(
-        dedent("""\
+        dedent(
+            """\
             Debugs the program of a recording, forward and backward, with gdb's words for commands. It goes to
             any count of the recording, and shows there the instruction that comes next and what that changes. It
             shows the machine, whatever the recording claims. Ctrl-C ends a search, and not the debugger. An
             empty line repeats the last move. The commands are:
-        """) + listed,
+        """
+        )
+        + listed,
         "galluspa debug examples/face.orsr -ex 'watch dot 600,219' -ex run",
     )
     options.add_argument("recording", metavar="RECORDING", type=Path)
-    options.add_argument("-x", "--command", metavar="FILE", action=_Given, dest="given", default=[],
-                         help="carry out the commands in a file, a line each; may be used several times")
-    options.add_argument("-ex", "--eval-command", metavar="COMMAND", action=_Given, dest="given", default=[],
-                         help="carry out a command; may be used several times, and with -x, in their order")
-    options.add_argument("--batch", action="store_true",
-                         help="end after these commands, or with status 2 at the first that is refused")
-    options.add_argument("--at", metavar="N", type=whole_number(0, COUNTS), default=0,
-                         help="the count to begin at (default 0)")
-    options.add_argument("--directory", metavar="FOLDER", type=Path, action="append", default=[],
-                         help="look for the sources in this folder (default: the current one, and that of the symbol "
-                              "file); may be used several times")
+    options.add_argument(
+        "-x",
+        "--command",
+        metavar="FILE",
+        action=_Given,
+        dest="given",
+        default=[],
+        help="carry out the commands in a file, a line each; may be used several times",
+    )
+    options.add_argument(
+        "-ex",
+        "--eval-command",
+        metavar="COMMAND",
+        action=_Given,
+        dest="given",
+        default=[],
+        help="carry out a command; may be used several times, and with -x, in their order",
+    )
+    options.add_argument(
+        "--batch", action="store_true", help="end after these commands, or with status 2 at the first that is refused"
+    )
+    options.add_argument("--at", metavar="N", type=whole_number(0, COUNTS), default=0, help="the count to begin at (default 0)")
+    options.add_argument(
+        "--directory",
+        metavar="FOLDER",
+        type=Path,
+        action="append",
+        default=[],
+        help="look for the sources in this folder (default: the current one, and that of the symbol "
+        "file); may be used several times",
+    )
     options.add_symbols_option()
-    options.add_argument("-j", "--jobs", metavar="N", type=whole_number(1, MOST_WORKERS), default=WORKERS,
-                         help="search N segments at the same time (default: as many as there are processors)")
+    options.add_argument(
+        "-j",
+        "--jobs",
+        metavar="N",
+        type=whole_number(1, MOST_WORKERS),
+        default=WORKERS,
+        help="search N segments at the same time (default: as many as there are processors)",
+    )
     options.add_limit_option("end a command after so many seconds")
     options.add_program_option()
     options.add_library_option()

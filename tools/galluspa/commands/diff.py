@@ -28,23 +28,36 @@ from galluspa.tracing import WORKERS, Run
 def parser() -> Parser:
     """The command line of this tool."""
     options = Parser(
-        dedent("""\
+        dedent(
+            """\
             Prints the first input, the first checkpoint and its first part in which two recordings differ, with
             what each of them has; with --all, each that differs. It compares what the recordings claim, and
-            does not test whether that is true: `galluspa check` does."""),
+            does not test whether that is true: `galluspa check` does."""
+        ),
         "galluspa diff examples/face.orsr examples/face-version-1.orsr",
         {OK: "they differ in no input and no checkpoint, or in nothing of --only", WRONG: "they differ"},
     )
     options.add_argument("first", metavar="A", type=Path, help="a recording")
     options.add_argument("second", metavar="B", type=Path, help="the other recording")
-    options.add_argument("--only", metavar="PARTS", type=parts, default=PARTS.keys(),
-                         help=f"compare only these, with commas between them: {', '.join(PARTS)} (default: all)")
-    options.add_argument("--all", action="store_true",
-                         help="go on after the first difference: print all inputs, checkpoints and parts that differ, "
-                              "but not more than some of the inputs and of the words of each checkpoint")
-    options.add_argument("--who", action="store_true",
-                         help="run both machines, and print after each part the last instruction that wrote it in "
-                              "each: from what the checkpoint before claims, whether or not that is true")
+    options.add_argument(
+        "--only",
+        metavar="PARTS",
+        type=parts,
+        default=PARTS.keys(),
+        help=f"compare only these, with commas between them: {', '.join(PARTS)} (default: all)",
+    )
+    options.add_argument(
+        "--all",
+        action="store_true",
+        help="go on after the first difference: print all inputs, checkpoints and parts that differ, "
+        "but not more than some of the inputs and of the words of each checkpoint",
+    )
+    options.add_argument(
+        "--who",
+        action="store_true",
+        help="run both machines, and print after each part the last instruction that wrote it in "
+        "each: from what the checkpoint before claims, whether or not that is true",
+    )
     options.add_symbols_option()
     options.add_limit_option("with --who, end after so many seconds")
     options.add_program_option()
@@ -64,9 +77,7 @@ def parts(text: str) -> Set[str]:
 class Writers:
     """Says of a part that differs which instruction wrote it last in each of two recordings."""
 
-    def __init__(
-        self, library: Library, texts: Sequence[bytes], read: Sequence[Recording], names: Sequence[Symbols]
-    ) -> None:
+    def __init__(self, library: Library, texts: Sequence[bytes], read: Sequence[Recording], names: Sequence[Symbols]) -> None:
         self._sides = list(zip("AB", texts, read, names, strict=True))
         self._library = library
 
@@ -113,9 +124,7 @@ def main(asked: Namespace) -> int:
     return WRONG
 
 
-def writers_of(
-    asked: Namespace, limit: Limit, texts: Sequence[bytes], read: Sequence[Recording], symbols: Symbols
-) -> Writers:
+def writers_of(asked: Namespace, limit: Limit, texts: Sequence[bytes], read: Sequence[Recording], symbols: Symbols) -> Writers:
     """Who wrote, with the names of the symbol file that is asked for, or of that beside each recording."""
     is_other = asked.symbols is None and asked.second.with_suffix(".sym") != asked.first.with_suffix(".sym")
     other = symbols_for(None, asked.second) if is_other and asked.second.name else symbols

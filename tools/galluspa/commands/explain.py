@@ -27,21 +27,36 @@ STEPS = 1000
 def parser() -> Parser:
     """The command line of this tool."""
     options = Parser(
-        dedent("""\
+        dedent(
+            """\
             Explains why a recording is not accepted, or why a session is refused. For a false recording: each
             part in which its first false checkpoint and the machine differ, the last instructions that wrote
             the first of them, and when it had the claimed value. For a refused file: the field or the member,
-            and the rule that it breaks."""),
+            and the rule that it breaks."""
+        ),
         "galluspa explain false.orsr",
-        {OK: "the recording is accepted, or the session is recorded", WRONG: "the recording is false",
-         REFUSED: "the recording, the session or an argument is refused"},
+        {
+            OK: "the recording is accepted, or the session is recorded",
+            WRONG: "the recording is false",
+            REFUSED: "the recording, the session or an argument is refused",
+        },
     )
     options.add_argument("recording", metavar="FILE", type=Path, help="a recording, or a session")
-    options.add_argument("--steps", metavar="N", type=whole_number(1, 1 << 40), default=STEPS,
-                       help=f"examine N instructions before the false checkpoint one by one, and a tenth of that after "
-                            f"it (default {STEPS:,}; some ten thousand take a second)")
-    options.add_argument("--words", metavar="N", type=whole_number(0, WORDS), default=WORDS_SHOWN,
-                       help=f"print at most N words of memory (default {WORDS_SHOWN})")
+    options.add_argument(
+        "--steps",
+        metavar="N",
+        type=whole_number(1, 1 << 40),
+        default=STEPS,
+        help=f"examine N instructions before the false checkpoint one by one, and a tenth of that after "
+        f"it (default {STEPS:,}; some ten thousand take a second)",
+    )
+    options.add_argument(
+        "--words",
+        metavar="N",
+        type=whole_number(0, WORDS),
+        default=WORDS_SHOWN,
+        help=f"print at most N words of memory (default {WORDS_SHOWN})",
+    )
     options.add_symbols_option()
     options.add_limit_option("end after so many seconds, with what was found by then")
     options.add_program_option()
@@ -49,9 +64,7 @@ def parser() -> Parser:
     return options
 
 
-def explanation(
-    text: bytes, answer: Answer, program: Program, asked: Namespace, symbols: Symbols
-) -> Iterator[str]:
+def explanation(text: bytes, answer: Answer, program: Program, asked: Namespace, symbols: Symbols) -> Iterator[str]:
     """The lines that explain what the program answers to a recording's text."""
     library = Library.find(asked.library, program.limit) if answer.false_claim else None
     yield answer.line

@@ -12,7 +12,15 @@ from textwrap import dedent
 
 from galluspa import recording
 from galluspa.command import (
-    OK, Parser, Refused, complain, progress, read_file, whole_number, write_bytes, write_file,
+    OK,
+    Parser,
+    Refused,
+    complain,
+    progress,
+    read_file,
+    whole_number,
+    write_bytes,
+    write_file,
 )
 from galluspa.film import BYTES, FRAME_MS, MOST_FRAME_MS, Film, Shot, picture, shots_of_claims, shots_of_run
 from galluspa.interface import Machine
@@ -27,28 +35,49 @@ FRAMES, MOST_FRAMES = 1000, 10_000
 def parser() -> Parser:
     """The command line of this tool."""
     options = Parser(
-        dedent(f"""\
+        dedent(
+            f"""\
             Makes a film of the screen of a recording, as an animated PNG, which browsers play: a frame for each
             checkpoint, or one for every N instructions; or a picture of one checkpoint, which every viewer
             shows. The first frame of a film is checkpoint 0, the initial state: a viewer that does not play
             shows it alone. A film has at most {BYTES >> 20} MiB; a line says where it ends sooner than the
-            recording."""),
+            recording."""
+        ),
         "galluspa film examples/face.orsr --every 500000 -o face.png",
     )
     options.add_argument("recording", metavar="RECORDING", type=Path)
     which = options.add_mutually_exclusive_group()
-    which.add_argument("--every", metavar="N", type=whole_number(1, COUNTS),
-                       help="show the screen of the machine at count 0, N, 2N .., whatever the recording claims")
-    which.add_argument("--checkpoints", action="store_true",
-                       help="show the screen that each checkpoint claims, from 0 on, true or not (the default)")
-    which.add_argument("--at", metavar="K", type=whole_number(0, CHECKPOINTS),
-                       help="make a still picture, of the screen that checkpoint K claims")
-    options.add_argument("--ms", metavar="MS", type=whole_number(1, MOST_FRAME_MS), default=FRAME_MS,
-                         help=f"show each frame for so many milliseconds (default {FRAME_MS})")
-    options.add_argument("--frames", metavar="N", type=whole_number(1, MOST_FRAMES), default=FRAMES,
-                         help=f"end after so many frames (default {FRAMES:,})")
-    options.add_argument("-o", "--output", metavar="FILE",
-                         help="write the film or the picture into a file, and not to standard output")
+    which.add_argument(
+        "--every",
+        metavar="N",
+        type=whole_number(1, COUNTS),
+        help="show the screen of the machine at count 0, N, 2N .., whatever the recording claims",
+    )
+    which.add_argument(
+        "--checkpoints",
+        action="store_true",
+        help="show the screen that each checkpoint claims, from 0 on, true or not (the default)",
+    )
+    which.add_argument(
+        "--at", metavar="K", type=whole_number(0, CHECKPOINTS), help="make a still picture, of the screen that checkpoint K claims"
+    )
+    options.add_argument(
+        "--ms",
+        metavar="MS",
+        type=whole_number(1, MOST_FRAME_MS),
+        default=FRAME_MS,
+        help=f"show each frame for so many milliseconds (default {FRAME_MS})",
+    )
+    options.add_argument(
+        "--frames",
+        metavar="N",
+        type=whole_number(1, MOST_FRAMES),
+        default=FRAMES,
+        help=f"end after so many frames (default {FRAMES:,})",
+    )
+    options.add_argument(
+        "-o", "--output", metavar="FILE", help="write the film or the picture into a file, and not to standard output"
+    )
     options.add_limit_option("end after so many seconds, with the frames that there are by then")
     options.add_program_option()
     options.add_library_option()

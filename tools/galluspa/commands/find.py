@@ -27,30 +27,42 @@ MOST = 1000
 def parser() -> Parser:
     """The command line of this tool."""
     options = Parser(
-        dedent("""\
+        dedent(
+            """\
             Finds when something happens in the run of a recording. It prints the first instruction at which a
             condition holds, the last one, or all of them, as `galluspa trace` does: the count, the PC, the word,
             its mnemonic, and what it changes. The search shows the machine, whatever the recording claims, up
             to the last checkpoint.
-        """) + CONDITIONS,
+        """
+        )
+        + CONDITIONS,
         "galluspa find examples/face.orsr --last store dot 100,200",
         {WRONG: "the condition holds at no count"},
     )
     options.add_argument("recording", metavar="RECORDING", type=Path)
     options.add_argument("condition", metavar="CONDITION", nargs="+", help="a condition, as above")
-    options.add_argument("--from", metavar="N", dest="first", type=whole_number(0, COUNTS), default=0,
-                       help="the count to begin at (default 0)")
-    options.add_argument("--to", metavar="N", type=whole_number(0, COUNTS),
-                       help="the count to end before (default: that of the last checkpoint)")
+    options.add_argument(
+        "--from", metavar="N", dest="first", type=whole_number(0, COUNTS), default=0, help="the count to begin at (default 0)"
+    )
+    options.add_argument(
+        "--to", metavar="N", type=whole_number(0, COUNTS), help="the count to end before (default: that of the last checkpoint)"
+    )
     which = options.add_mutually_exclusive_group()
     which.add_argument("--last", action="store_true", help="find the last instruction")
     which.add_argument("--all", action="store_true", help="find all instructions, in the order of their counts")
-    options.add_argument("--most", metavar="N", type=whole_number(1, COUNTS),
-                       help=f"with --all, print at most N (default {MOST:,})")
+    options.add_argument(
+        "--most", metavar="N", type=whole_number(1, COUNTS), help=f"with --all, print at most N (default {MOST:,})"
+    )
     options.add_symbols_option()
     options.add_argument("--json", action="store_true", help="print one JSON object per line")
-    options.add_argument("-j", "--jobs", metavar="N", type=whole_number(1, MOST_WORKERS), default=WORKERS,
-                       help="search N segments at the same time (default: as many as there are processors)")
+    options.add_argument(
+        "-j",
+        "--jobs",
+        metavar="N",
+        type=whole_number(1, MOST_WORKERS),
+        default=WORKERS,
+        help="search N segments at the same time (default: as many as there are processors)",
+    )
     options.add_limit_option("end after so many seconds, and say how far that was")
     options.add_program_option()
     options.add_library_option()

@@ -22,13 +22,14 @@ NAME = re.compile(r"(\d{1,4})-(\d{1,4})\.orsr", re.ASCII)
 def parser() -> Parser:
     """The command line of this tool."""
     options = Parser(
-        dedent("""\
+        dedent(
+            """\
             Prints the verdict line of a recording, from the lines of its slices. A slice is a file I-J.orsr, as
             `galluspa slice` prints it, and its line is beside it in I-J.line. The first false checkpoint decides,
-            if there are the lines of all slices before it."""),
+            if there are the lines of all slices before it."""
+        ),
         "galluspa join examples/face.orsr pieces/*.orsr",
-        {OK: "the recording is accepted", WRONG: "the recording is false",
-         REFUSED: "the recording, a slice or a line is refused"},
+        {OK: "the recording is accepted", WRONG: "the recording is false", REFUSED: "the recording, a slice or a line is refused"},
     )
     options.add_argument("recording", metavar="RECORDING", type=Path)
     options.add_argument("stretches", metavar="I-J.orsr", type=Path, nargs="+", help="the slices, in any order")

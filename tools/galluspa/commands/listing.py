@@ -22,19 +22,31 @@ LEAST_NAMED, MOST_LABELS = 0x100, 20
 
 def parser() -> Parser:
     """The command line of this tool."""
-    options = Parser("Lists instructions: the number of each word, the word, its mnemonic, and what it does.",
-                   "galluspa listing --words 8 --markdown examples/hello.json")
+    options = Parser(
+        "Lists instructions: the number of each word, the word, its mnemonic, and what it does.",
+        "galluspa listing --words 8 --markdown examples/hello.json",
+    )
     options.add_argument("file", metavar="FILE", type=Path, help="a session, or a recording")
-    options.add_argument("--at", metavar="K", type=whole_number(0, 4096), default=0,
-                       help="list what checkpoint K of a recording claims (default 0, the initial state)")
-    options.add_argument("--from", metavar="WORD", dest="first", type=whole_number(0, WORDS - 1),
-                       help="the number of the first word (default: the program counter)")
-    options.add_argument("--words", metavar="N", type=whole_number(1, WORDS),
-                       help="list N words (default: up to the first that is 0)")
+    options.add_argument(
+        "--at",
+        metavar="K",
+        type=whole_number(0, 4096),
+        default=0,
+        help="list what checkpoint K of a recording claims (default 0, the initial state)",
+    )
+    options.add_argument(
+        "--from",
+        metavar="WORD",
+        dest="first",
+        type=whole_number(0, WORDS - 1),
+        help="the number of the first word (default: the program counter)",
+    )
+    options.add_argument(
+        "--words", metavar="N", type=whole_number(1, WORDS), help="list N words (default: up to the first that is 0)"
+    )
     form = options.add_mutually_exclusive_group()
     form.add_argument("--markdown", action="store_true", help="print a table in Markdown")
-    form.add_argument("--source", action="store_true",
-                      help="print a source, of which `galluspa assemble` makes the same words")
+    form.add_argument("--source", action="store_true", help="print a source, of which `galluspa assemble` makes the same words")
     options.add_symbols_option()
     options.add_program_option()
     return options

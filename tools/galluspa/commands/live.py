@@ -10,8 +10,11 @@ from galluspa.escapes import printable
 
 def parser() -> Parser:
     """The command line of this tool."""
-    return Parser("Prints where the page of the live machine is, and opens it in a browser. It needs no network.",
-                  "galluspa live", {OK: "a browser has the page"})
+    return Parser(
+        "Prints where the page of the live machine is, and opens it in a browser. It needs no network.",
+        "galluspa live",
+        {OK: "a browser has the page"},
+    )
 
 
 def main(asked: Namespace) -> int:

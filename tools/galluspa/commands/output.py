@@ -14,14 +14,20 @@ from galluspa.sessions import CHECKPOINTS
 def parser() -> Parser:
     """The command line of this tool."""
     options = Parser(
-        dedent("""\
+        dedent(
+            """\
             Prints the bytes that, as a recording claims, the machine sent over the serial line, and nothing
-            else. It does not test whether the claims are true: `galluspa check` does."""),
+            else. It does not test whether the claims are true: `galluspa check` does."""
+        ),
         "galluspa output examples/face.orsr > sent",
     )
     options.add_argument("recording", metavar="RECORDING", type=Path)
-    options.add_argument("--at", metavar="K", type=whole_number(1, CHECKPOINTS),
-                         help="print only the bytes sent from checkpoint K - 1 to checkpoint K")
+    options.add_argument(
+        "--at",
+        metavar="K",
+        type=whole_number(1, CHECKPOINTS),
+        help="print only the bytes sent from checkpoint K - 1 to checkpoint K",
+    )
     options.add_program_option()
     return options
 

@@ -18,18 +18,24 @@ from galluspa.version import last_commit, of_commit
 def parser() -> Parser:
     """The command line of this tool."""
     options = Parser(
-        dedent("""\
+        dedent(
+            """\
             Makes a Debian package and a tarball: the program, the library for C, the tools with a manual page
             and completion for bash, the documents and the examples. It writes their checksums to SHA256SUMS in
-            the same folder."""),
+            the same folder."""
+        ),
         "galluspa package --into packages",
     )
-    options.add_argument("--into", metavar="FOLDER", type=Path, required=True,
-                         help="the folder to write to; created if it does not exist")
-    options.add_argument("--library", metavar="FOLDER", type=Path,
-                       help="the folder of libgalluspa.a and libgalluspa.so (default: where they were built)")
-    options.add_argument("--release", metavar="VERSION",
-                         help="the version (default: 0 and the date of the last commit)")
+    options.add_argument(
+        "--into", metavar="FOLDER", type=Path, required=True, help="the folder to write to; created if it does not exist"
+    )
+    options.add_argument(
+        "--library",
+        metavar="FOLDER",
+        type=Path,
+        help="the folder of libgalluspa.a and libgalluspa.so (default: where they were built)",
+    )
+    options.add_argument("--release", metavar="VERSION", help="the version (default: 0 and the date of the last commit)")
     options.add_program_option()
     return options
 

@@ -10,8 +10,10 @@ def parser() -> Parser:
     """The command line of this tool."""
     return answers.parser(
         "Runs a session (JSON) on the machine, and prints its recording. Lines on standard error explain a refusal.",
-        "galluspa record examples/hello.json -o hello.orsr", "SESSION",
-        {OK: "the recording is made", REFUSED: "the session, its recording or an argument is refused"})
+        "galluspa record examples/hello.json -o hello.orsr",
+        "SESSION",
+        {OK: "the recording is made", REFUSED: "the session, its recording or an argument is refused"},
+    )
 
 
 def main(asked: Namespace) -> int:

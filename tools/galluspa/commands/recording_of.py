@@ -21,9 +21,11 @@ LONGEST_PAGE = 1 << 28
 def parser() -> Parser:
     """The command line of this tool."""
     options = Parser(
-        dedent("""\
+        dedent(
+            """\
             Prints the recording that a live report holds, as it is, so that you check it with your own program.
-            It runs nothing of the page."""),
+            It runs nothing of the page."""
+        ),
         "galluspa recording-of face.html > face.orsr",
         {OK: "the recording is printed, whatever its verdict"},
     )

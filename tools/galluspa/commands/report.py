@@ -12,7 +12,17 @@ from dataclasses import replace
 from pathlib import Path
 
 from galluspa.command import (
-    FAILED, OK, REFUSED, STATUSES, WRONG, Parser, Refused, complain, escape_unwritable, read_file, whole_number,
+    FAILED,
+    OK,
+    REFUSED,
+    STATUSES,
+    WRONG,
+    Parser,
+    Refused,
+    complain,
+    escape_unwritable,
+    read_file,
+    whole_number,
     with_libraries,
 )
 from galluspa.limits import Limit
@@ -24,25 +34,37 @@ from galluspa.symbols import symbols_for
 
 def parser() -> Parser:
     """The command line of this tool."""
-    options = Parser("Prints one self-contained page (HTML) of a recording: its verdict line, checkpoints, screens "
-                     "and inputs.",
-                   "galluspa report examples/face.orsr > face.html",
-                   {OK: "the recording is accepted", WRONG: "the recording is false",
-                    REFUSED: "the recording or an argument is refused",
-                    FAILED: f"{STATUSES[FAILED]}; if the time is over, what was found by then is printed"})
+    options = Parser(
+        "Prints one self-contained page (HTML) of a recording: its verdict line, checkpoints, screens " "and inputs.",
+        "galluspa report examples/face.orsr > face.html",
+        {
+            OK: "the recording is accepted",
+            WRONG: "the recording is false",
+            REFUSED: "the recording or an argument is refused",
+            FAILED: f"{STATUSES[FAILED]}; if the time is over, what was found by then is printed",
+        },
+    )
     options.add_argument("recording", metavar="RECORDING", type=Path)
-    options.add_argument("--text", action="store_true",
-                         help="print the verdict line and what changes at each checkpoint, as plain text")
-    options.add_argument("--live", action="store_true",
-                         help="make a page that can check the recording again, and run on from any checkpoint")
-    options.add_argument("--title", metavar="TEXT",
-                         help="begin with this headline, and have the verdict be a line below it")
-    options.add_argument("--note", metavar="FILE", type=Path,
-                         help="put the text in this file above all else; without --title, its first line is the "
-                              "headline")
-    options.add_argument("--at", metavar="N", type=whole_number(0, COUNTS),
-                         help="begin with the machine at count N: its screen, registers, next instruction and, with "
-                              "names, who probably called; it needs the library")
+    options.add_argument(
+        "--text", action="store_true", help="print the verdict line and what changes at each checkpoint, as plain text"
+    )
+    options.add_argument(
+        "--live", action="store_true", help="make a page that can check the recording again, and run on from any checkpoint"
+    )
+    options.add_argument("--title", metavar="TEXT", help="begin with this headline, and have the verdict be a line below it")
+    options.add_argument(
+        "--note",
+        metavar="FILE",
+        type=Path,
+        help="put the text in this file above all else; without --title, its first line is the " "headline",
+    )
+    options.add_argument(
+        "--at",
+        metavar="N",
+        type=whole_number(0, COUNTS),
+        help="begin with the machine at count N: its screen, registers, next instruction and, with "
+        "names, who probably called; it needs the library",
+    )
     options.add_symbols_option()
     options.add_limit_option("end after so many seconds, with what was found by then")
     options.add_program_option()

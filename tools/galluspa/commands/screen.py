@@ -11,10 +11,11 @@ def parser() -> Parser:
     options = answers.parser(
         "Prints the screen that a checkpoint claims, as a binary PBM. It does not test whether the claim is true:\n"
         "`galluspa check` does. `galluspa film --at K` makes a PNG of the screen.",
-        "galluspa screen --at 4 examples/face.orsr -o face.pbm", "RECORDING",
-        {OK: "the screen is drawn", REFUSED: "the recording or an argument is refused, or it has no such checkpoint"})
-    options.add_argument("--at", metavar="K", required=True,
-                         help="the number of the checkpoint; 0 is the initial state")
+        "galluspa screen --at 4 examples/face.orsr -o face.pbm",
+        "RECORDING",
+        {OK: "the screen is drawn", REFUSED: "the recording or an argument is refused, or it has no such checkpoint"},
+    )
+    options.add_argument("--at", metavar="K", required=True, help="the number of the checkpoint; 0 is the initial state")
     return options
 
 

@@ -17,34 +17,62 @@ from galluspa.symbols import Symbols, address_of, symbols_for
 def parser() -> Parser:
     """The command line of this tool."""
     options = Parser(
-        dedent("""\
+        dedent(
+            """\
             Prints a session (JSON) for `galluspa record`, from a memory image, registers and inputs, or
-            from a recording. Numbers are decimal, or hexadecimal with a leading 0x."""),
-        "galluspa session --memory memory.bin --set PC=64 --set R14=0x80000 --inputs inputs.csv --every 1000 --until "
-        "20000",
+            from a recording. Numbers are decimal, or hexadecimal with a leading 0x."""
+        ),
+        "galluspa session --memory memory.bin --set PC=64 --set R14=0x80000 --inputs inputs.csv --every 1000 --until " "20000",
     )
     options.add_argument("--memory", metavar="IMAGE", type=Path, help="a raw image of the initial memory, 1 MB or less")
-    options.add_argument("--at", metavar="ADDRESS", type=whole_number(0, MEMORY_BYTES), default=0,
-                       help="the byte address where the image begins (default 0)")
-    options.add_argument("--set", metavar="NAME=VALUE", action="append", default=[],
-                       help="a number of the initial state: R0 to R15, H, PC (in words, or a name of a symbol file), "
-                            "flags (as NZ, or a number), rate, phase")
+    options.add_argument(
+        "--at",
+        metavar="ADDRESS",
+        type=whole_number(0, MEMORY_BYTES),
+        default=0,
+        help="the byte address where the image begins (default 0)",
+    )
+    options.add_argument(
+        "--set",
+        metavar="NAME=VALUE",
+        action="append",
+        default=[],
+        help="a number of the initial state: R0 to R15, H, PC (in words, or a name of a symbol file), "
+        "flags (as NZ, or a number), rate, phase",
+    )
     options.add_argument("--inputs", metavar="CSV", type=Path, help="the inputs: count, kind, value per line")
     options.add_argument("--checkpoints", metavar="N,N,..", help="the counts of the checkpoints")
-    options.add_argument("--every", metavar="N", type=whole_number(1, COUNTS),
-                         help="make a checkpoint every N instructions, up to --until or the end of the run")
-    options.add_argument("--until", metavar="N", type=whole_number(1, COUNTS),
-                         help="make the last checkpoint at N or before")
+    options.add_argument(
+        "--every",
+        metavar="N",
+        type=whole_number(1, COUNTS),
+        help="make a checkpoint every N instructions, up to --until or the end of the run",
+    )
+    options.add_argument("--until", metavar="N", type=whole_number(1, COUNTS), help="make the last checkpoint at N or before")
     ends = options.add_mutually_exclusive_group()
-    ends.add_argument("--until-stops", action="store_const", dest="end", const=endings.STOPS,
-                      help="make the last checkpoint at the first count at which the machine is stopped")
-    ends.add_argument("--until-loops", action="store_const", dest="end", const=endings.LOOPS,
-                      help="make the last checkpoint where the machine, after all inputs, enters a loop that it "
-                           f"never leaves, of at most {endings.LONGEST_LOOP:,} instructions")
-    options.add_argument("--most", metavar="N", type=whole_number(1, COUNTS), default=endings.MOST,
-                         help=f"look for the stop or the loop up to count N (default {endings.MOST:,})")
-    options.add_argument("--of", metavar="RECORDING", type=Path,
-                         help="take initial state, inputs and counts from a recording")
+    ends.add_argument(
+        "--until-stops",
+        action="store_const",
+        dest="end",
+        const=endings.STOPS,
+        help="make the last checkpoint at the first count at which the machine is stopped",
+    )
+    ends.add_argument(
+        "--until-loops",
+        action="store_const",
+        dest="end",
+        const=endings.LOOPS,
+        help="make the last checkpoint where the machine, after all inputs, enters a loop that it "
+        f"never leaves, of at most {endings.LONGEST_LOOP:,} instructions",
+    )
+    options.add_argument(
+        "--most",
+        metavar="N",
+        type=whole_number(1, COUNTS),
+        default=endings.MOST,
+        help=f"look for the stop or the loop up to count N (default {endings.MOST:,})",
+    )
+    options.add_argument("--of", metavar="RECORDING", type=Path, help="take initial state, inputs and counts from a recording")
     options.add_symbols_option()
     options.add_program_option()
     options.add_library_option()
@@ -57,8 +85,9 @@ def check_counts(listed: str | None, every: int | None, until: int | None, end: 
     if end and (listed is not None or until is not None):
         raise Refused(f"--until-{end} finds the last checkpoint: leave out --checkpoints and --until")
     if not end and ((listed is None) == (every is None) or (every is None) != (until is None)):
-        raise Refused("name the checkpoints: --checkpoints N,N,.., or --every N with --until N, or --until-stops or "
-                      "--until-loops")
+        raise Refused(
+            "name the checkpoints: --checkpoints N,N,.., or --every N with --until N, or --until-stops or " "--until-loops"
+        )
 
 
 def counts_of(listed: str | None, every: int | None, until: int | None, end: int | None) -> list[int]:
@@ -110,8 +139,7 @@ def end_of(asked: Namespace, session: Session) -> int:
 def main(asked: Namespace) -> int:
     """Prints the session that was asked for."""
     if asked.of:
-        if asked.memory or asked.set or asked.inputs or asked.checkpoints or asked.every or asked.until or asked.at or \
-                asked.end:
+        if asked.memory or asked.set or asked.inputs or asked.checkpoints or asked.every or asked.until or asked.at or asked.end:
             raise Refused("--of takes everything from the recording: leave out the other options")
         text = read_file(asked.of)
         read = recording.lawful(Program.find(asked.program), str(asked.of), text)

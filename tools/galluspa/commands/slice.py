@@ -14,17 +14,31 @@ from galluspa.stretches import stretch
 def parser() -> Parser:
     """The command line of this tool."""
     options = Parser(
-        dedent("""\
+        dedent(
+            """\
             Prints the stretch between two checkpoints of a recording as a recording of its own: what checkpoint
             I claims is its initial state, counts begin at 0 again, and inputs move with them. `galluspa join`
-            makes the line of the whole from theirs."""),
+            makes the line of the whole from theirs."""
+        ),
         "galluspa slice examples/face.orsr --from 2 --to 4 > 2-4.orsr",
     )
     options.add_argument("recording", metavar="RECORDING", type=Path)
-    options.add_argument("--from", metavar="I", dest="first", type=whole_number(0, 4095), required=True,
-                       help="the number of the checkpoint where the slice begins")
-    options.add_argument("--to", metavar="J", dest="last", type=whole_number(1, 4096), required=True,
-                       help="the number of the last checkpoint of the slice")
+    options.add_argument(
+        "--from",
+        metavar="I",
+        dest="first",
+        type=whole_number(0, 4095),
+        required=True,
+        help="the number of the checkpoint where the slice begins",
+    )
+    options.add_argument(
+        "--to",
+        metavar="J",
+        dest="last",
+        type=whole_number(1, 4096),
+        required=True,
+        help="the number of the last checkpoint of the slice",
+    )
     options.add_program_option()
     return options
 

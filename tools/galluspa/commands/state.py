@@ -29,25 +29,33 @@ MEMORY_WORDS = 8
 def parser() -> Parser:
     """The command line of this tool."""
     options = Parser(
-        dedent("""\
+        dedent(
+            """\
             Prints the machine at any count of a recording: the registers, the flags, the devices, the
             instruction that it does next and what that changes. It shows the machine, whatever the recording
             claims. An ADDRESS is a number, a register such as R14 or SP, or a name of a symbol file, each with
-            + or - a number after it. Numbers are decimal, or hexadecimal with 0x in front."""),
+            + or - a number after it. Numbers are decimal, or hexadecimal with 0x in front."""
+        ),
         "galluspa state examples/face.orsr --at 8000000 --memory R13,4",
     )
     options.add_argument("recording", metavar="RECORDING", type=Path)
-    options.add_argument("--at", metavar="N", type=whole_number(0, COUNTS),
-                         help="the count (default: that of the last checkpoint)")
-    options.add_argument("--memory", metavar="ADDRESS[,WORDS]", action="append", default=[],
-                         help=f"print words of memory, too, from the one at an address on (default {MEMORY_WORDS} "
-                              "words): each as a word, as a number, as bytes and as characters; may be used several "
-                              "times")
-    options.add_argument("--stack", action="store_true",
-                         help=f"print the {STACK_WORDS} words from R14 on, too, with those that are probably ways "
-                              "back, and who probably called: a guess, since the machine has no frames")
-    options.add_argument("--screen", metavar="FILE",
-                         help="draw the screen into a file: a PNG, or a PBM if its name ends with .pbm")
+    options.add_argument("--at", metavar="N", type=whole_number(0, COUNTS), help="the count (default: that of the last checkpoint)")
+    options.add_argument(
+        "--memory",
+        metavar="ADDRESS[,WORDS]",
+        action="append",
+        default=[],
+        help=f"print words of memory, too, from the one at an address on (default {MEMORY_WORDS} "
+        "words): each as a word, as a number, as bytes and as characters; may be used several "
+        "times",
+    )
+    options.add_argument(
+        "--stack",
+        action="store_true",
+        help=f"print the {STACK_WORDS} words from R14 on, too, with those that are probably ways "
+        "back, and who probably called: a guess, since the machine has no frames",
+    )
+    options.add_argument("--screen", metavar="FILE", help="draw the screen into a file: a PNG, or a PBM if its name ends with .pbm")
     options.add_argument("--json", action="store_true", help="print one JSON object")
     options.add_symbols_option()
     options.add_limit_option("end after so many seconds")
@@ -111,8 +119,7 @@ def main(asked: Namespace) -> int:
         raise Refused(f"--at {at} is after the last checkpoint, which is at {last}")
     try:
         machine = run.machine(at)
-        lines = [json.dumps(as_object(machine, asked, symbols))] if asked.json else \
-            list(shown(run, machine, asked, symbols))
+        lines = [json.dumps(as_object(machine, asked, symbols))] if asked.json else list(shown(run, machine, asked, symbols))
         if asked.screen:
             write_file(asked.screen, inspection.picture_of(inspection.screen_of(machine, program), asked.screen))
     except TimeIsUp as over:

@@ -14,7 +14,15 @@ from textwrap import dedent
 
 from galluspa import runs
 from galluspa.command import (
-    OK, WRONG, Parser, Refused, complain, progress, whole_number, with_libraries, write_file,
+    OK,
+    WRONG,
+    Parser,
+    Refused,
+    complain,
+    progress,
+    whole_number,
+    with_libraries,
+    write_file,
 )
 from galluspa.escapes import printable
 from galluspa.program import Program
@@ -27,27 +35,42 @@ SLOWEST = 5
 def parser() -> Parser:
     """The command line of this tool."""
     options = Parser(
-        dedent("""\
+        dedent(
+            """\
             Checks each recording (*.orsr) under a folder and prints TAP. NAME.expect beside NAME.orsr has the
             expected beginning of its verdict line, as `false checkpoint 3`; without it, the recording has to be
-            accepted."""),
+            accepted."""
+        ),
         "galluspa suite -j 4 examples",
         {OK: "all answers are as expected", WRONG: "an answer is not as expected, or missing"},
     )
     options.add_argument("folder", metavar="FOLDER", type=Path)
-    options.add_argument("-j", metavar="N", dest="jobs", type=whole_number(1, 1024), default=os.cpu_count() or 1,
-                       help="check N recordings at a time (default: as many as there are processors)")
-    options.add_argument("--workers", metavar="W", type=whole_number(1, 64), default=1,
-                       help="check each recording with W workers (default 1)")
-    options.add_limit_option("check each recording for at most so many seconds; after them its answer is `no answer "
-                             "in SECONDS s`, which is never as expected")
+    options.add_argument(
+        "-j",
+        metavar="N",
+        dest="jobs",
+        type=whole_number(1, 1024),
+        default=os.cpu_count() or 1,
+        help="check N recordings at a time (default: as many as there are processors)",
+    )
+    options.add_argument(
+        "--workers", metavar="W", type=whole_number(1, 64), default=1, help="check each recording with W workers (default 1)"
+    )
+    options.add_limit_option(
+        "check each recording for at most so many seconds; after them its answer is `no answer "
+        "in SECONDS s`, which is never as expected"
+    )
     options.add_argument("--keep", metavar="FILE", help="write the answers and times to a file, as JSON")
-    options.add_argument("--changed-since", metavar="FILE", dest="before",
-                       help="report what changed and what got slower since the run that --keep wrote to FILE")
-    options.add_argument("--junit", metavar="FILE",
-                         help="write the results as JUnit XML, which CI systems read")
-    options.add_argument("--page", metavar="FILE",
-                         help="write one page (HTML): each recording with its last screen, verdict line and time")
+    options.add_argument(
+        "--changed-since",
+        metavar="FILE",
+        dest="before",
+        help="report what changed and what got slower since the run that --keep wrote to FILE",
+    )
+    options.add_argument("--junit", metavar="FILE", help="write the results as JUnit XML, which CI systems read")
+    options.add_argument(
+        "--page", metavar="FILE", help="write one page (HTML): each recording with its last screen, verdict line and time"
+    )
     options.add_program_option()
     return options
 
@@ -74,9 +97,7 @@ def told(changes: Sequence[Change], before: str) -> Iterator[str]:
         yield f"# nothing changed since {printable(before)}, and nothing got slower"
 
 
-def write(
-    asked: Namespace, program: Program, outcomes: list[Outcome], now: Run, changes: list[Change] | None
-) -> None:
+def write(asked: Namespace, program: Program, outcomes: list[Outcome], now: Run, changes: list[Change] | None) -> None:
     """Writes all files that were asked for; one that can't be written costs the others nothing."""
     name = printable(asked.folder.resolve().name)
 
@@ -85,7 +106,8 @@ def write(
         return "".join(pieces).encode()
 
     contents = (
-        (asked.keep, lambda: runs.text_of(now).encode()), (asked.junit, lambda: runs.junit(name, outcomes)),
+        (asked.keep, lambda: runs.text_of(now).encode()),
+        (asked.junit, lambda: runs.junit(name, outcomes)),
         (asked.page, page),
     )
     failures: list[Refused] = []

@@ -21,16 +21,24 @@ from galluspa.tracing import Run
 def parser() -> Parser:
     """The command line of this tool."""
     options = Parser(
-        dedent("""\
+        dedent(
+            """\
             Prints a symbol file of the modules that are loaded in a memory, with their commands. It follows the
             list that Project Oberon (2013) keeps, from the word at byte 20 on. The memory is that of a recording
-            at a count, of a session's initial state, or of an image."""),
+            at a count, of a session's initial state, or of an image."""
+        ),
         "galluspa symbols --oberon system.orsr --at 2000000 -o system.sym",
     )
-    options.add_argument("--oberon", metavar="FILE", type=Path, required=True,
-                         help="a recording, a session, or an image of the memory, 1 MB or less, from address 0 on")
-    options.add_argument("--at", metavar="N", type=whole_number(0, COUNTS),
-                         help="of a recording: the count (default: that of the last checkpoint)")
+    options.add_argument(
+        "--oberon",
+        metavar="FILE",
+        type=Path,
+        required=True,
+        help="a recording, a session, or an image of the memory, 1 MB or less, from address 0 on",
+    )
+    options.add_argument(
+        "--at", metavar="N", type=whole_number(0, COUNTS), help="of a recording: the count (default: that of the last checkpoint)"
+    )
     options.add_argument("-o", "--output", metavar="FILE", help="write the symbol file, and do not print it")
     options.add_limit_option("end after so many seconds")
     options.add_program_option()

@@ -30,31 +30,52 @@ STEPS = 20
 def parser() -> Parser:
     """The command line of this tool."""
     options = Parser(
-        dedent("""\
+        dedent(
+            """\
             Prints the instructions that the machine does from a count on, one per line: the count, the PC, the
             word, its mnemonic, and what it changes. Inputs come before the instruction of their count. The
             trace shows the machine, whatever the recording claims, and begins at the last true checkpoint at
             or before the count. A symbol file adds names and source lines.
-        """) + CONDITIONS,
+        """
+        )
+        + CONDITIONS,
         "galluspa trace examples/face.orsr --from 19999990 --to 20000000",
         {WRONG: "the condition of --until holds at no count"},
     )
     options.add_argument("recording", metavar="RECORDING", type=Path)
-    options.add_argument("--from", metavar="N", dest="first", type=whole_number(0, COUNTS), default=0,
-                       help="the count to begin at (default 0)")
-    options.add_argument("--to", metavar="N", type=whole_number(0, COUNTS),
-                       help="the count to end at (default with --until: that of the last checkpoint)")
-    options.add_argument("--steps", metavar="M", type=whole_number(1, COUNTS),
-                       help=f"print M instructions from there (default without --to: {STEPS}); with --until, the last "
-                            "M")
-    options.add_argument("--until", metavar="CONDITION", nargs="+",
-                       help="search for the first instruction at which a condition holds, as above; `galluspa find` "
-                            "finds the last one, too")
-    options.add_argument("--at", metavar="K", type=whole_number(0, 4096),
-                       help="begin at what checkpoint K claims, and do not check whether that is true")
-    options.add_argument("--calls", action="store_true",
-                       help="where another procedure begins or goes on, print who probably called it: a guess from R15 "
-                            "and the words at R14, since the machine has no frames")
+    options.add_argument(
+        "--from", metavar="N", dest="first", type=whole_number(0, COUNTS), default=0, help="the count to begin at (default 0)"
+    )
+    options.add_argument(
+        "--to",
+        metavar="N",
+        type=whole_number(0, COUNTS),
+        help="the count to end at (default with --until: that of the last checkpoint)",
+    )
+    options.add_argument(
+        "--steps",
+        metavar="M",
+        type=whole_number(1, COUNTS),
+        help=f"print M instructions from there (default without --to: {STEPS}); with --until, the last " "M",
+    )
+    options.add_argument(
+        "--until",
+        metavar="CONDITION",
+        nargs="+",
+        help="search for the first instruction at which a condition holds, as above; `galluspa find` " "finds the last one, too",
+    )
+    options.add_argument(
+        "--at",
+        metavar="K",
+        type=whole_number(0, 4096),
+        help="begin at what checkpoint K claims, and do not check whether that is true",
+    )
+    options.add_argument(
+        "--calls",
+        action="store_true",
+        help="where another procedure begins or goes on, print who probably called it: a guess from R15 "
+        "and the words at R14, since the machine has no frames",
+    )
     options.add_symbols_option()
     options.add_argument("--json", action="store_true", help="print one JSON object per line")
     options.add_limit_option("end after so many seconds, and say how far that was")
