@@ -31,14 +31,7 @@ class Person(Desk):
         if menu and not self.page.answer(f"document.querySelector('{menu}').open"):
             self.press_button(f"{menu} summary")
         self.page.wait(f"{found} && !{found}.disabled && {found}.checkVisibility()")
-        # What is above it may have grown in the frame before.
-        self.page.answer("new Promise((done) => requestAnimationFrame(() => requestAnimationFrame(() => done())))")
-        self.page.answer(f"{found}.scrollIntoView({{ block: 'nearest' }})")
-        x, y = self.page.answer(
-            f"(({{ left, top, width, height }}) => [left + width / 2, top + height / 2])({found}.getBoundingClientRect())"
-        )
-        for kind in ("mouseMoved", "mousePressed", "mouseReleased"):
-            self.page.point(kind, x, y)
+        self.click_on(found)
 
     def begin_drawing(self) -> None:
         """Starts the drawing program, which sends back each key."""

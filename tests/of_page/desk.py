@@ -78,6 +78,24 @@ class Desk:
         self.page.reload()
         self.ready()
 
+    def click_on(self, found: str) -> None:
+        """Clicks with the mouse on the middle of the element that an expression is of. The page may move the element until the click comes,
+        as its workers answer: then it is clicked on again, as a person would."""
+        middle = f"(({{ left, top, width, height }}) => [left + width / 2, top + height / 2])({found}.getBoundingClientRect())"
+        for _ in range(5):
+            self.page.answer("new Promise((done) => requestAnimationFrame(() => requestAnimationFrame(() => done())))")
+            self.page.answer(f"{found}.scrollIntoView({{ block: 'nearest' }})")
+            self.page.answer(
+                f"{found}.addEventListener('click', () => (document.body.dataset.clicked = 'yes'), {{ once: true, capture: true }})"
+            )
+            self.page.answer("document.body.dataset.clicked = ''")
+            x, y = self.page.answer(middle)
+            for kind in ("mouseMoved", "mousePressed", "mouseReleased"):
+                self.page.point(kind, x, y, int(kind == "mousePressed"))
+            if self.page.answer("document.body.dataset.clicked"):
+                return
+        fail(f"{found} is not hit by five clicks")
+
     def click(self, name: str) -> None:
         """Clicks a button."""
         self.page.answer(f"el('{name}').click()")

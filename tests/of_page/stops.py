@@ -24,14 +24,7 @@ def press_button(desk: Desk, name: str) -> None:
         page.answer(f"el('{menu}').querySelector('summary').focus()")
         page.press("Enter")
     page.wait(f"{found}.checkVisibility() && !{found}.disabled")
-    # What is above it may have grown in the frame before.
-    page.answer("new Promise((done) => requestAnimationFrame(() => requestAnimationFrame(() => done())))")
-    page.answer(f"{found}.scrollIntoView({{ block: 'nearest' }})")
-    x, y = page.answer(
-        f"(({{ left, top, width, height }}) => [left + width / 2, top + height / 2])({found}.getBoundingClientRect())"
-    )
-    for kind in ("mouseMoved", "mousePressed", "mouseReleased"):
-        page.point(kind, x, y, int(kind == "mousePressed"))
+    desk.click_on(found)
 
 
 def open_image(desk: Desk, image: bytes) -> None:
