@@ -11,7 +11,7 @@ from of_tools.samples import EXAMPLES, GALLUSPA, PROGRAM, STORED, TOOLS, ToolTes
 
 FACE = EXAMPLES / "face.orsr"
 # The subcommands that came when there was the command already.
-LATER = {"check", "record", "screen", "migrate", "live", "state", "debug", "symbols"}
+LATER = {"check", "record", "screen", "migrate", "live", "state", "debug", "symbols", "executed", "profile"}
 
 
 class MainTest(ToolTest):
