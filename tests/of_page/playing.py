@@ -9,7 +9,7 @@ END, NEVER = 20000000, 77777
 
 
 def play(desk: Desk) -> None:
-    """The past is played from the cursor, paused, and played on up to now, at both speeds; the machine stays where it is."""
+    """The past is played from the cursor up to now, at both speeds, and paused at one; the machine stays where it is."""
     page = desk.page
     run_to_end(desk, "face.orsr", FACE)
     expect("what a machine that is paused is", page.answer(WORD), "PAUSED")
@@ -18,12 +18,14 @@ def play(desk: Desk) -> None:
         look_at(desk, 8000000)
         expect("what the button does", page.answer(shown("run")), "Play")
         press_button(desk, "run")
-        page.wait(f"look.at > 8500000 && {shown('run')} === 'Pause'")
-        press_button(desk, "run")
-        page.wait(f"{EXACT} && {shown('run')} === 'Play'")
-        before = page.answer("new Promise((done) => { const { at } = look; setTimeout(() => done(at - look.at), 300); })")
-        expect("how far it goes once it is paused", before, 0)
-        press_button(desk, "run")
+        # At full speed now may come before a second click.
+        if speed == "clock":
+            page.wait(f"look.at > 8500000 && {shown('run')} === 'Pause'")
+            press_button(desk, "run")
+            page.wait(f"{EXACT} && {shown('run')} === 'Play'")
+            before = page.answer("new Promise((done) => { const { at } = look; setTimeout(() => done(at - look.at), 300); })")
+            expect("how far it goes once it is paused", before, 0)
+            press_button(desk, "run")
         page.wait("!isPast()")
         expect("the machine", page.answer(f"[nowCount(), app.latest.on, {shown('run')}]"), [END, False, "Run"])
     look_at(desk, 8000000)
