@@ -3,8 +3,7 @@ use Rattle.std.proofs.Common.{◌≡◌, ◌∙◌, ◌<◌, ◌≤◌, ◌+◌,
 use Rattle.std.proofs.lemmas.Bool.{cases_lt}
 use Rattle.std.proofs.lemmas.List.{get_or-append_right, get_or_append_left, length-map, map-append}
 use Rattle.std.specs.List.{All}
-use Rattle.risc_machine.proofs.DueLemmas.{counts-order}
-use Rattle.risc_model.proofs.OrderLemmas.{count_at-is, count_before-next}
+use Rattle.risc_model.proofs.OrderLemmas.{count_at-is, count_before-next, counts-order}
 use Rattle.risc_model.specs.InputOrder.{AreOrdered, IsRightIndex, count_at, count_before}
 use Rattle.risc_model.specs.declared.event.Event.{Event}
 use Rattle.risc_model.specs.declared.inputs.TheConstants.{MAX_COUNT}

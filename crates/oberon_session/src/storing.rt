@@ -115,25 +115,25 @@ fn write_words(memory: &mut Memory<'_>, words: &[u32]) -> Result<(), AllocError>
 {
     // The contract of `read` states that a memory has all its words.
     let _first = memory.read(0);
-    for word_no in 0..MEMORY_WORDS {
-        write_word(memory, word_no, words[word_no as usize])?;
+    for number in 0..MEMORY_WORDS {
+        write_word(memory, number, words[number as usize])?;
     }
     Ok(())
 }
 
 /// Writes a word to a memory, if the memory has another word there. Otherwise the memory stays as it is, and no page becomes
 /// private.
-fn write_word(memory: &mut Memory<'_>, word_no: u32, word: u32) -> Result<(), AllocError>
-    requires inside { word_no < MEMORY_WORDS }
+fn write_word(memory: &mut Memory<'_>, number: u32, word: u32) -> Result<(), AllocError>
+    requires inside { number < MEMORY_WORDS }
     requires whole { length memory.old.words ≡ MEMORY_WORDS }
-    ensures here { OnOk result (slice_index memory.new.words word_no ≡ word) }
-    ensures others { OnOk result ((k : ℕ) → k ≢ word_no → slice_index memory.new.words k ≡ slice_index memory.old.words k) }
+    ensures here { OnOk result (slice_index memory.new.words number ≡ word) }
+    ensures others { OnOk result ((k : ℕ) → k ≢ number → slice_index memory.new.words k ≡ slice_index memory.old.words k) }
     ensures whole { OnOk result (length memory.new.words ≡ MEMORY_WORDS) }
     ensures base { memory.new.base ≡ memory.old.base }
-    ensures same { slice_index memory.old.words word_no ≡ word → memory.new ≡ memory.old }
+    ensures same { slice_index memory.old.words number ≡ word → memory.new ≡ memory.old }
 {
-    if memory.read(word_no) == word {
+    if memory.read(number) == word {
         return Ok(());
     }
-    memory.write(word_no, word)
+    memory.write(number, word)
 }

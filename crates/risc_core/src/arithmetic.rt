@@ -62,7 +62,7 @@ pub const fn alu(
 /// Computes an operation other than ADD and SUB, as `alu` defines it.
 #[inline(always)]
 #[tactic(auto, using(crate::proofs::BitLemmas::bitwise), unfolding(crate::specs::Arithmetic::outcome_of))]
-pub const fn alu_beside_sums(
+const fn alu_beside_sums(
     op: u8,
     u: bool,
     imm: bool,

@@ -21,7 +21,7 @@ mod sums;
 mod word;
 
 pub use address::Place;
-pub use arithmetic::{AluOut, alu, alu_beside_sums, multiply, quotient, simple_value};
+pub use arithmetic::{AluOut, alu, multiply, quotient, simple_value};
 pub use branch::{COUNTER_END, LINK_REGISTER, link, reg_target, taken, taken_by_table, target};
 pub use decoding::decode;
 pub use flags::{Flags, written};
@@ -30,3 +30,4 @@ pub use laws::{bits_law, division_law, flags_law, instruction_law, numbers_law, 
 pub use locate::{DEVICES, RAM_END, place};
 pub use stop::Stop;
 pub use sums::{Sum, add, subtract};
+pub use word::is_set;

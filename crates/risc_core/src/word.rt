@@ -10,8 +10,9 @@ pub(crate) const fn nibble(word: u32, low: u32) -> u8
     (word >> low & 0xF) as u8
 }
 
+/// Reports whether a bit of a word is set.
 #[inline(always)]
-pub(crate) const fn is_set(word: u32, index: u32) -> bool
+pub const fn is_set(word: u32, index: u32) -> bool
     requires { index < 32 }
     ensures { result ≡ bit word index }
 {

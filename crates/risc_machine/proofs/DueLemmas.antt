@@ -1,62 +1,14 @@
 -- Which inputs are due, and what taking them does.
-use Rattle.std.proofs.Common.{◌≡◌, ◌≢◌, ℕ, zero, suc, ◌+◌, ◌-◌, ◌<◌, ◌≤◌, Bool, true, false, List, [], ◌∷◌, length, get_or, drop, map, nat_eq, nat_lt, add-zero, add-one, drop-cons, cond, refl, ap, sym, ◌∙◌, arith, length-drop}
+use Rattle.std.proofs.Common.{◌≡◌, ◌≢◌, ℕ, zero, suc, ◌+◌, ◌-◌, ◌<◌, ◌≤◌, Bool, true, List, [], ◌∷◌, length, get_or, drop, map, nat_eq, add-one, drop-cons, cond, refl, ap, sym, ◌∙◌, arith, length-drop}
 use Rattle.std.proofs.lemmas.List.{get_or-drop, drop-map}
 use Rattle.std.proofs.lemmas.Bool.{ne_eqb, eq-eqb}
-use Rattle.std.specs.List.Sorted.{IsNonDecreasingBy, IsPartitionPoint}
-use borrow.Author.Tests.{ltb-true, ltb-false}
 use Rattle.risc_devices.specs.DeviceState.{DeviceState}
 use Rattle.risc_devices.specs.Input.{taken_input}
 use Rattle.risc_model.specs.declared.event.Event.{Event}
-use Rattle.risc_model.specs.InputOrder.{AreOrdered, count_at}
+use Rattle.risc_model.specs.InputOrder.{IsNextAt, count_at}
 use Rattle.risc_model.specs.Replay.{fed}
-use Rattle.risc_machine.specs.inner.Due.{IsNextAt}
-use Rattle.risc_model.proofs.OrderLemmas.{count_at-is, count_before-next}
+use Rattle.risc_model.proofs.OrderLemmas.{counts-order}
 use Rattle.risc_model.proofs.RunLemmas.{fed-others}
-
--- the counts of inputs in order rise
-counts-up : (es : List Event) → AreOrdered es → (j m : ℕ) → j + m < length es → count_at es j ≤ count_at es (j + m)
-counts-up es ordered j zero inside = rw add-zero (omega arith)
-counts-up es ordered j (suc m) inside =
-    let e : j + suc m ≡ j + m + 1 = omega arith in
-    let so_far = counts-up es ordered j m (omega arith) in
-    let up = (ordered (j + m + 1) (omega arith)).0 in
-    let step = count_before-next es (j + m) in
-    rw e (omega arith)
-
-pub counts-order : (es : List Event) → AreOrdered es → (j k : ℕ) → j ≤ k → k < length es → count_at es j ≤ count_at es k
-counts-order es ordered j k h inside =
-    let up = counts-up es ordered j (k - j) (omega arith) in
-    let same : j + (k - j) ≡ k = omega arith in
-    rw same at up
-
-pub counts-rise : (es : List Event) → AreOrdered es → IsNonDecreasingBy (λ (e : Event). e.count) es
-counts-rise es ordered = λ j k d h inside.
-    let first = count_at-is es j d (omega arith) in
-    let last = count_at-is es k d inside in
-    let up = counts-order es ordered j k h inside in
-    omega arith
-
--- a list that is not empty has an event
-some_event : (es : List Event) → 0 < length es → Event
-some_event [] h = absurd (omega arith)
-some_event (x ∷ es) h = x
-
--- the index that a binary search finds
-pub found-next : (es : List Event) (next at : ℕ) → AreOrdered es → next ≤ length es → IsPartitionPoint (λ (e : Event). nat_lt e.count at ≡ true) (λ (e : Event). nat_lt e.count at ≡ false) es next → IsNextAt es next at
-found-next es next at ordered inside found = record {
-  ordered = ordered;
-  inside = inside;
-  before = λ k h.
-      let d = some_event es (omega arith) in
-      let is = count_at-is es k d (omega arith) in
-      let below = found.0 k d (omega arith) h in
-      omega (arith, ltb-true _ _ below);
-  rest = λ k h l.
-      let d = some_event es (omega arith) in
-      let is = count_at-is es k d l in
-      let above = found.1 k d h l in
-      omega (arith, ltb-false _ _ above);
-}
 
 -- the counts from an index on
 count_at-drop : (es : List Event) (p k : ℕ) → count_at (drop p es) k ≡ count_at es (p + k)
@@ -90,18 +42,6 @@ fed-between es next from to at d first last low high =
       rest = λ k h l. let r = last.rest k h l in omega arith;
     } in
     fed-drop next es at d first.inside (λ k h. let b = first.before k h in omega arith) ∙ fed-rest es next at d after
-
--- up to the count of the next input, or up to an earlier one, it stays the next
-pub next-up_to : (es : List Event) (next at to : ℕ) → IsNextAt es next (at + 1) → at < to → (next < length es → to ≤ count_at es next) → IsNextAt es next to
-next-up_to es next at to past later least = record {
-  ordered = past.ordered;
-  inside = past.inside;
-  before = λ k h. let b = past.before k h in omega arith;
-  rest = λ k h l.
-      let up = counts-order es past.ordered next k h l in
-      let first = least (omega arith) in
-      omega arith;
-}
 
 -- the inputs of a count end at the first one of a later count
 pub next-after : (es : List Event) (first next at : ℕ) → IsNextAt es first at → first ≤ next → next < length es → ((k : ℕ) → k < next → count_at es k < at + 1) → count_at es next ≢ at → IsNextAt es next (at + 1)

@@ -4,7 +4,6 @@
 pub mod Boards
 pub mod Rows
 pub mod DecodedOps
-pub mod Due
 pub mod Matched
 pub mod Entries
 pub mod Frames

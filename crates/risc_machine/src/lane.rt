@@ -3,6 +3,12 @@ ghost use Rattle.std.specs.Prelude.{◌≡◌, ◌<◌, ◌%◌, ◌^◌};
 ghost use Rattle.risc_model.specs.Lane.{lane_byte, with_lane};
 ghost use Rattle.risc_model.specs.Exec.{loaded_value, stored_word, stored_value};
 
+/// Bit v of a load or a store of a byte.
+pub(crate) const BYTE: bool = true;
+
+/// Bit v of a load or a store of a word.
+pub(crate) const WORD: bool = false;
+
 /// Masks the lowest byte of a word.
 const BYTE_MASK: u32 = 0xFF;
 

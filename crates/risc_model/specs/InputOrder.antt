@@ -24,3 +24,10 @@ pub record IsFirstWrong (es : List Event) (at : ℕ) : Type 0 where
   pub inside : at < length es
   pub before : (index : ℕ) → index < at → IsRightIndex es index
   pub wrong : ¬ (IsRightIndex es at)
+
+-- the inputs before the index `next` have counts before `at`, and the others do not
+pub record IsNextAt (es : List Event) (next at : ℕ) : Type 0 where
+  pub ordered : AreOrdered es
+  pub inside : next ≤ length es
+  pub before : (k : ℕ) → k < next → count_at es k < at
+  pub rest : (k : ℕ) → next ≤ k → k < length es → at ≤ count_at es k

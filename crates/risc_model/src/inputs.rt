@@ -1,6 +1,6 @@
 //! Ordered lists of inputs. One input with its count is in `event`; what an input does is in `risc_devices`.
-ghost use Rattle.std.specs.Prelude.{◌≡◌, IfOk, IfErr, IfNone, IfSome};
-ghost use Rattle.risc_model.specs.InputOrder.{AreOrdered, IsFirstWrong};
+ghost use Rattle.std.specs.Prelude.{◌≡◌, ◌≤◌, IfOk, IfErr, IfNone, IfSome};
+ghost use Rattle.risc_model.specs.InputOrder.{AreOrdered, IsFirstWrong, IsNextAt};
 
 use crate::event::Event;
 use std::marker::Model;
@@ -85,4 +85,30 @@ fn first_wrong(list: &[Event]) -> Option<usize>
         least = event.count;
     }
     None
+}
+
+/// Returns the index of the first input whose count is `at` or later.
+pub fn first_from(events: &[Event], at: u64) -> usize
+    requires { AreOrdered events.now }
+    ensures { IsNextAt events.now result at }
+{
+    events.partition_point(|event| event.count < at)
+}
+
+/// Returns the count up to which no input comes, from the count `at` on: that of the input at the index `index`, or `to` if this is
+/// earlier.
+pub fn quiet_until(events: &[Event], index: usize, at: u64, to: u64) -> u64
+    requires next { IsNextAt events.now index at }
+    requires forward { at ≤ to }
+    ensures later { at ≤ result }
+    ensures inside { result ≤ to }
+    ensures next { IsNextAt events.now index result }
+{
+    if index < events.len() {
+        let due = events[index].count;
+        if due < to {
+            return due;
+        }
+    }
+    to
 }

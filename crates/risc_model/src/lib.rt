@@ -13,7 +13,7 @@ mod laws;
 
 pub use cpu::Cpu;
 pub use event::Event;
-pub use inputs::{Inputs, MAX_COUNT, Unordered};
+pub use inputs::{Inputs, MAX_COUNT, Unordered, first_from, quiet_until};
 pub use laws::{
     idle_loop_law, idle_visit_law, lane_law, run_law, stop_law, stopped_law, visit_law,
 };

@@ -65,13 +65,13 @@ impl<'a> Memory<'a> {
 
     /// Returns the word with this number.
     #[inline(always)]
-    pub fn read(&self, word_no: u32) -> u32
-        requires { word_no < MEMORY_WORDS }
-        ensures word { result ≡ slice_index self.now.words word_no }
+    pub fn read(&self, number: u32) -> u32
+        requires { number < MEMORY_WORDS }
+        ensures word { result ≡ slice_index self.now.words number }
         ensures memory { IsMemory self.now }
     {
-        let slot = (word_no / PAGE_WORDS) as usize;
-        let index = (word_no % PAGE_WORDS) as usize;
+        let slot = (number / PAGE_WORDS) as usize;
+        let index = (number % PAGE_WORDS) as usize;
         self.slots[slot].page().words[index]
     }
 
@@ -80,17 +80,17 @@ impl<'a> Memory<'a> {
     /// The first write to a page that is not owned makes a copy of it, which is owned from then on. If there is no memory for the
     /// copy, the write fails and the memory is unchanged. A write to an owned page allocates nothing.
     #[inline(always)]
-    pub fn write(&mut self, word_no: u32, value: u32) -> Result<(), AllocError>
-        requires { word_no < MEMORY_WORDS }
-        ensures ok { OnOk result (self.new.words ≡ slice_set self.old.words word_no value) }
-        ensures owned { OnOk result (self.new.owned ≡ slice_set self.old.owned (word_no / PAGE_WORDS) true) }
+    pub fn write(&mut self, number: u32, value: u32) -> Result<(), AllocError>
+        requires { number < MEMORY_WORDS }
+        ensures ok { OnOk result (self.new.words ≡ slice_set self.old.words number value) }
+        ensures owned { OnOk result (self.new.owned ≡ slice_set self.old.owned (number / PAGE_WORDS) true) }
         ensures base { self.new.base ≡ self.old.base }
         ensures err { OnErr result (self.new ≡ self.old) }
-        ensures out_of_memory { OnErr result (slice_get self.old.owned (word_no / PAGE_WORDS) ≡ Some false) }
-        ensures succeeds { slice_get self.old.owned (word_no / PAGE_WORDS) ≡ Some true → IsOk result }
+        ensures out_of_memory { OnErr result (slice_get self.old.owned (number / PAGE_WORDS) ≡ Some false) }
+        ensures succeeds { slice_get self.old.owned (number / PAGE_WORDS) ≡ Some true → IsOk result }
     {
-        let slot = (word_no / PAGE_WORDS) as usize;
-        let index = (word_no % PAGE_WORDS) as usize;
+        let slot = (number / PAGE_WORDS) as usize;
+        let index = (number % PAGE_WORDS) as usize;
         match &mut self.slots[slot] {
             Slot::Owned(own) => {
                 own.page.words[index] = value;
@@ -111,16 +111,16 @@ impl<'a> Memory<'a> {
 
     /// Writes one word if its page is private. Returns whether it is; if not, the memory is unchanged. It allocates nothing.
     #[inline(always)]
-    pub fn write_owned(&mut self, word_no: u32, word: u32) -> bool
-        requires { word_no < MEMORY_WORDS }
-        ensures words { result ≡ true → self.new.words ≡ slice_set self.old.words word_no word }
-        ensures owned { result ≡ true → self.new.owned ≡ slice_set self.old.owned (word_no / PAGE_WORDS) true }
+    pub fn write_owned(&mut self, number: u32, word: u32) -> bool
+        requires { number < MEMORY_WORDS }
+        ensures words { result ≡ true → self.new.words ≡ slice_set self.old.words number word }
+        ensures owned { result ≡ true → self.new.owned ≡ slice_set self.old.owned (number / PAGE_WORDS) true }
         ensures base { self.new.base ≡ self.old.base }
         ensures unchanged { result ≡ false → self.new ≡ self.old }
-        ensures answer { slice_get self.old.owned (word_no / PAGE_WORDS) ≡ Some result }
+        ensures answer { slice_get self.old.owned (number / PAGE_WORDS) ≡ Some result }
     {
-        let slot = (word_no / PAGE_WORDS) as usize;
-        let index = (word_no % PAGE_WORDS) as usize;
+        let slot = (number / PAGE_WORDS) as usize;
+        let index = (number % PAGE_WORDS) as usize;
         match &mut self.slots[slot] {
             Slot::Owned(own) => {
                 own.page.words[index] = word;
@@ -149,8 +149,8 @@ impl<'a> Memory<'a> {
         ensures { IfOk result (λ words. words.items ≡ slice_range self.now.words from (from + n)) }
     {
         let mut words = Vec::with_capacity(alloc, n as usize)?;
-        for word_no in from..from + n {
-            words.push(self.read(word_no))?;
+        for number in from..from + n {
+            words.push(self.read(number))?;
         }
         Ok(words)
     }

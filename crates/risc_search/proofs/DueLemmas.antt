@@ -5,30 +5,21 @@ use Rattle.std.proofs.lemmas.Bool.{cases_lt}
 use Rattle.std.proofs.lemmas.List.{get_or-map, get_or-take, get_or-drop, take-map, drop-map}
 use Rattle.risc_devices.specs.Input.{kind_of}
 use Rattle.risc_model.specs.declared.event.Event.{Event}
-use Rattle.risc_model.specs.InputOrder.{AreOrdered, count_at}
-use Rattle.risc_machine.specs.inner.Due.{IsNextAt}
-use Rattle.risc_machine.proofs.DueLemmas.{counts-order}
+use Rattle.risc_model.specs.InputOrder.{IsNextAt, count_at}
 use Rattle.risc_search.specs.Condition.{HasInput, kind_at}
-use Rattle.risc_search.specs.inner.Due.{HasKind, IsQuiet, IsSplitAt}
+use Rattle.risc_search.specs.inner.Due.{HasKind, IsQuiet}
 
--- the index that a binary search finds
-pub split : (es : List Event) (index n : ℕ) → IsNextAt es index n → IsSplitAt es index n
-split es index n next = record { inside = next.inside; before = next.before; rest = next.rest }
-
--- no input comes before that of the index
-pub split-quiet : (es : List Event) (index n due : ℕ) → AreOrdered es → IsSplitAt es index n → (index < length es → due ≤ count_at es index) → IsQuiet es n due
-split-quiet es index n due ordered is least = λ m after before k inside same.
+-- between two counts that have the same next input none comes
+pub quiet-between : (es : List Event) (index n due : ℕ) → IsNextAt es index n → IsNextAt es index due → IsQuiet es n due
+quiet-between es index n due first last = λ m after before k inside same.
     elim (cases_lt k index) [
-      | inl low ↦ let b = is.before k low in absurd (omega arith)
-      | inr high ↦
-          let up = counts-order es ordered index k high inside in
-          let first = least (omega arith) in
-          absurd (omega arith)
+      | inl low ↦ let b = first.before k low in absurd (omega arith)
+      | inr high ↦ let r = last.rest k high inside in absurd (omega arith)
     ]
 
 -- the first input of a count comes before the first of a later one
-pub split-order : (es : List Event) (first end n m : ℕ) → IsSplitAt es first n → IsSplitAt es end m → n ≤ m → first ≤ end
-split-order es first end n m low high later =
+pub index-order : (es : List Event) (first end n m : ℕ) → IsNextAt es first n → IsNextAt es end m → n ≤ m → first ≤ end
+index-order es first end n m low high later =
     elim (cases_lt end first) [
       | inl h ↦ let b = low.before end h in let r = high.rest end (omega arith) (omega (arith, low.inside)) in absurd (omega arith)
       | inr h ↦ h
@@ -44,7 +35,7 @@ kind-within es first count i inside =
     ∙ get_or-drop first (map kinds es) i 0
 
 -- an input between the first of a count and the first of a later one has this count
-input-between : (es : List Event) (first end n : ℕ) → IsSplitAt es first n → IsSplitAt es end (n + 1) → (kind : ℕ) → HasKind kind (take (end - first) (drop first es)) → HasInput kind es n
+input-between : (es : List Event) (first end n : ℕ) → IsNextAt es first n → IsNextAt es end (n + 1) → (kind : ℕ) → HasKind kind (take (end - first) (drop first es)) → HasInput kind es n
 input-between es first end n low high kind has =
     let inside : has.index < end - first = omega (arith, has.inside, length-take (end - first) (drop first es)) in
     let below : first + has.index < length es = omega (arith, inside, high.inside) in
@@ -58,7 +49,7 @@ input-between es first end n low high kind has =
     }
 
 -- an input of the count is between them
-between-input : (es : List Event) (first end n : ℕ) → IsSplitAt es first n → IsSplitAt es end (n + 1) → (kind : ℕ) → HasInput kind es n → HasKind kind (take (end - first) (drop first es))
+between-input : (es : List Event) (first end n : ℕ) → IsNextAt es first n → IsNextAt es end (n + 1) → (kind : ℕ) → HasInput kind es n → HasKind kind (take (end - first) (drop first es))
 between-input es first end n low high kind has =
     let after : first ≤ has.index = elim (cases_lt has.index first) [
       | inl h ↦ let b = low.before has.index h in absurd (omega (arith, b, has.count))
@@ -76,7 +67,7 @@ between-input es first end n low high kind has =
       kind_is = kind-within es first (end - first) (has.index - first) inside ∙ ap (λ (i : ℕ). kind_at es i) place ∙ has.kind_is;
     }
 
-pub kinds-between : (es : List Event) (first end n : ℕ) → IsSplitAt es first n → IsSplitAt es end (n + 1) → (kind : ℕ) → HasKind kind (take (end - first) (drop first es)) ↔ HasInput kind es n
+pub kinds-between : (es : List Event) (first end n : ℕ) → IsNextAt es first n → IsNextAt es end (n + 1) → (kind : ℕ) → HasKind kind (take (end - first) (drop first es)) ↔ HasInput kind es n
 kinds-between es first end n low high kind = (input-between es first end n low high kind, between-input es first end n low high kind)
 
 -- the kind at an index is that of the event there

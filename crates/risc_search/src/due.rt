@@ -2,17 +2,9 @@
 ghost use Rattle.std.specs.Prelude.{◌≡◌, ◌≤◌, ◌<◌, ◌+◌, ◌-◌, ◌^◌, ◌↔◌, ℕ};
 ghost use Rattle.risc_model.specs.InputOrder.{AreOrdered};
 ghost use Rattle.risc_search.specs.Condition.{HasInput};
-ghost use Rattle.risc_search.specs.inner.Due.{HasKind, IsQuiet, IsSplitAt};
+ghost use Rattle.risc_search.specs.inner.Due.{HasKind, IsQuiet};
 
-use risc_model::Event;
-
-/// Returns the index of the first input from the count `at` on, or the length of the list.
-fn first_from(events: &[Event], at: u64) -> usize
-    requires { AreOrdered events.now }
-    ensures { IsSplitAt events.now result at }
-{
-    events.partition_point(|event| event.count < at)
-}
+use risc_model::{Event, first_from, quiet_until};
 
 /// Returns the count of the first input from the count `at` on, or `to` if there is none before it.
 pub(crate) fn next_due(events: &[Event], at: u64, to: u64) -> u64
@@ -23,13 +15,7 @@ pub(crate) fn next_due(events: &[Event], at: u64, to: u64) -> u64
     ensures quiet { IsQuiet events.now at result }
 {
     let next = first_from(events, at);
-    if next < events.len() {
-        let due = events[next].count;
-        if due < to {
-            return due;
-        }
-    }
-    to
+    quiet_until(events, next, at, to)
 }
 
 /// Returns the count of the first input from the count `at` on, as `next_due` does, if none comes before it that was due at `due`

@@ -9,7 +9,6 @@
 
 mod access;
 mod before;
-mod bits;
 mod concerns;
 mod condition;
 mod due;

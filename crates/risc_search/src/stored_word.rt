@@ -1,8 +1,8 @@
 //! A word of RAM that an instruction stores to, and the changes of its bits.
 ghost use Rattle.std.specs.Prelude.{◌≡◌, ◌<◌, ◌^◌};
 
-use crate::bits::is_set;
 use crate::span::Span;
+use risc_core::is_set;
 
 /// A word of RAM that an instruction stores to.
 #[derive(Clone, Copy)]

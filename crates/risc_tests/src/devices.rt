@@ -103,7 +103,7 @@ fn keeps_sixteen_keys_of_seventeen(rt: HostRuntime) {
 }
 
 /// Device words to read in turn, each with the expected value.
-const OTHER_WORDS: [(u8, u32); 16] = [
+const READ_WORDS: [(u8, u32); 16] = [
     (0, 7),
     (1, 0xA5C),
     (2, 0),
@@ -123,12 +123,12 @@ const OTHER_WORDS: [(u8, u32); 16] = [
 ];
 
 #[test]
-fn reads_the_other_words(rt: HostRuntime) {
+fn reads_each_word(rt: HostRuntime) {
     let mut devices = idle(&rt, 0);
     feed(&rt, &mut devices, 3, 0x0712_3045);
     feed(&rt, &mut devices, 1, 7);
     feed(&rt, &mut devices, 2, 0xA5C);
-    check_words(&rt, word_read_wrong(&mut devices, &OTHER_WORDS));
+    check_words(&rt, word_read_wrong(&mut devices, &READ_WORDS));
 }
 
 /// Device words and values to write in turn, each with the byte sent and the LEDs after it.

@@ -169,8 +169,8 @@ const WORDS: [(u32, u32); 7] = [
 
 /// Reports whether the words of a memory have these values.
 fn has_words(memory: &Memory<'_>, words: &[(u32, u32)]) -> bool {
-    for (word_no, word) in words {
-        if *word_no >= 262_144 || memory.read(*word_no) != *word {
+    for (number, word) in words {
+        if *number >= 262_144 || memory.read(*number) != *word {
             return false;
         }
     }
@@ -335,8 +335,8 @@ fn has_rising_changes(alloc: Global, pool: &Pool) -> bool {
     let Some(mut memory) = memory_of(alloc, pool) else {
         return false;
     };
-    for (word_no, value) in &WRITES {
-        if *word_no >= 262_144 || memory.write(*word_no, *value).is_err() {
+    for (number, value) in &WRITES {
+        if *number >= 262_144 || memory.write(*number, *value).is_err() {
             return false;
         }
     }

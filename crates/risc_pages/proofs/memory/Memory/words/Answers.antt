@@ -2,12 +2,12 @@ use Rattle.std.proofs.Common.{◌<◌, ◌≤◌, ◌++◌, ◌∷◌, [], List,
 use Rattle.risc_pages.proofs.Paging.{slice_range_more}
 use Rattle.risc_pages.proofs.memory.Memory.words.Goals as goal
 
-pub loop-word_no-preserved : goal.loop-word_no-preserved
-loop-word_no-preserved c =
-    let inside : c.loop-word_no.word_no < length c.args.self.now.words = let m = c.read.ensures.memory.words in omega arith in
-    let low : c.args.from ≤ c.loop-word_no.word_no = omega arith in
-    let next = slice_range_more c.args.self.now.words c.args.from c.loop-word_no.word_no low inside in
+pub loop-number-preserved : goal.loop-number-preserved
+loop-number-preserved c =
+    let inside : c.loop-number.number < length c.args.self.now.words = let m = c.read.ensures.memory.words in omega arith in
+    let low : c.args.from ≤ c.loop-number.number = omega arith in
+    let next = slice_range_more c.args.self.now.words c.args.from c.loop-number.number low inside in
     c.in_ok-push.ensures.items
-    ∙ ap (λ (z : List ℕ). z ++ c.read.result ∷ []) c.loop-word_no.invariant
-    ∙ ap (λ (x : ℕ). slice_range c.args.self.now.words c.args.from c.loop-word_no.word_no ++ x ∷ []) c.read.ensures.word
+    ∙ ap (λ (z : List ℕ). z ++ c.read.result ∷ []) c.loop-number.invariant
+    ∙ ap (λ (x : ℕ). slice_range c.args.self.now.words c.args.from c.loop-number.number ++ x ∷ []) c.read.ensures.word
     ∙ sym next

@@ -1,7 +1,6 @@
 use Rattle.std.proofs.Common.{arith}
-use Rattle.risc_model.proofs.OrderLemmas.{count_at-is}
-use Rattle.risc_machine.proofs.DueLemmas.{next-up_to}
-use Rattle.risc_machine.proofs.due.quiet_until.Goals as goal
+use Rattle.risc_model.proofs.OrderLemmas.{count_at-is, next-up_to}
+use Rattle.risc_model.proofs.inputs.quiet_until.Goals as goal
 
 pub returns-then-due-to-clause-next : goal.returns-then-due-to-clause-next
 returns-then-due-to-clause-next c =
@@ -13,5 +12,5 @@ returns-then-due-to-clause-next c =
 pub returns-else-due-to-clause-next : goal.returns-else-due-to-clause-next
 returns-else-due-to-clause-next c =
     let es = c.args.events.now in
-    next-up_to es c.args.index c.args.at c.args.to c.requires.next c.requires.more
+    next-up_to es c.args.index c.args.at c.args.to c.requires.next c.requires.forward
     (λ inside. let here = count_at-is es c.args.index c.index-events-index.result inside in let late = c.if-due-to.false in omega arith)
