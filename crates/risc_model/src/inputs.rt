@@ -1,6 +1,6 @@
 //! Ordered lists of inputs. One input with its count is in `event`; what an input does is in `risc_devices`.
-ghost use Rattle.std.specs.Prelude.{◌≡◌, ◌≤◌, IfOk, IfErr, IfNone, IfSome};
-ghost use Rattle.risc_model.specs.InputOrder.{AreOrdered, IsFirstWrong, IsNextAt};
+ghost use Rattle.std.specs.Prelude.{◌≡◌, ◌≤◌, ◌<◌, length, IfOk, IfErr, IfNone, IfSome};
+ghost use Rattle.risc_model.specs.InputOrder.{AreOrdered, IsFirstWrong, IsNextAt, count_at};
 
 use crate::event::Event;
 use std::marker::Model;
@@ -103,6 +103,7 @@ pub fn quiet_until(events: &[Event], index: usize, at: u64, to: u64) -> u64
     ensures later { at ≤ result }
     ensures inside { result ≤ to }
     ensures next { IsNextAt events.now index result }
+    ensures ends { result < to → (index < length events.now) × (count_at events.now index ≡ result) }
 {
     if index < events.len() {
         let due = events[index].count;
