@@ -24,23 +24,25 @@ WANTED = (
     "a symbol file, each with + or - a number after it"
 )
 MOST_CHARACTERS = 1000
+# So many words of memory are meant if their number is not said.
+MEMORY_WORDS = 8
 
 
 def registers_of(state: Checkpoint) -> Mapping[str, int]:
-    """The values of the registers by all their names, in capital letters. PC is the byte address of the next
+    """Returns the values of the registers by all their names, in capital letters. PC is the byte address of the next
     instruction."""
     values = {name: state.registers[at] for name, at in REGISTER_NAMES.items()}
     return {**values, "H": state.h, "PC": 4 * state.pc}
 
 
 def is_register(text: str) -> bool:
-    """Whether a text begins with a register, perhaps with a dollar sign as gdb writes it."""
+    """Returns whether a text begins with a register, perhaps with a dollar sign as gdb writes it."""
     found = re.match(r"\$?([A-Za-z]+[0-9]*)", text.strip())
     return bool(found) and found[1].upper() in (*REGISTER_NAMES, "H", "PC") if found else False
 
 
 def value_of(text: str, state: Checkpoint, symbols: Symbols) -> int:
-    """The number that a text stands for, modulo 2^32; refused if it stands for none."""
+    """Returns the number that a text stands for, modulo 2^32; refused if it stands for none."""
     text = text.strip()
     if len(text) > MOST_CHARACTERS:
         raise Refused(f"an address has at most {MOST_CHARACTERS:,} characters")
@@ -57,15 +59,26 @@ def value_of(text: str, state: Checkpoint, symbols: Symbols) -> int:
 
 
 def address_in_memory(text: str, state: Checkpoint, symbols: Symbols) -> int:
-    """The same of an address of memory."""
+    """Returns the same of an address of memory."""
     address = value_of(text, state, symbols)
     if address >= MEMORY_BYTES:
         raise Refused(f"{shown(text.strip())} is {address:X}, and an address of memory is below {MEMORY_BYTES:X} " "(hexadecimal)")
     return address
 
 
+def words_asked(text: str) -> tuple[str, int]:
+    """Returns the address, as it is written, and the number of words that ADDRESS[,WORDS] says."""
+    address, comma, words = text.rpartition(",")
+    if not comma:
+        return text, MEMORY_WORDS
+    wanted = number(words)
+    if wanted is None or not 1 <= wanted <= MEMORY_BYTES // 4:
+        raise Refused(f"{shown(text)}: {shown(words)!r} is not a number of words from 1 to {MEMORY_BYTES // 4:,}")
+    return address, wanted
+
+
 def _term(text: str, state: Checkpoint, symbols: Symbols) -> int | None:
-    """What a text without a sum stands for; None if it stands for nothing."""
+    """Returns what a text without a sum stands for; None if it stands for nothing."""
     written = number(text)
     if written is not None:
         if written > WORD:
@@ -82,6 +95,6 @@ def _term(text: str, state: Checkpoint, symbols: Symbols) -> int | None:
 
 
 def _meant(text: str, symbols: Symbols) -> str:
-    """What is said of a name that no symbol has; nothing if no name is like it."""
+    """Returns what is said of a name that no symbol has; nothing if no name is like it."""
     meant = symbols.meant(text) if symbols else ""
     return f"no symbol is called {shown(text)}: did you mean {meant}?" if meant else ""

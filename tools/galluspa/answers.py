@@ -62,7 +62,7 @@ def carry_out(program: Program, arguments: Sequence[str], path: Path, name: str 
 
 
 def explanation(path: Path, text: bytes, command: str, answer: Answer) -> Iterator[str]:
-    """The lines that explain what the program refuses."""
+    """Yields the lines that explain what the program refuses."""
     if command == "record":
         yield from list(explain_session(text, answer))[2:]
         if text.startswith(b"ORSR"):
@@ -76,7 +76,7 @@ def explanation(path: Path, text: bytes, command: str, answer: Answer) -> Iterat
 
 
 def kind(path: Path, text: bytes) -> str:
-    """What a file that is not a recording may be, and what to do with it; or nothing."""
+    """Returns what a file that is not a recording may be, and what to do with it; or nothing."""
     name = printable(str(path))
     if path.suffix == ".asm":
         return f"a source: galluspa assemble {name} -o NAME.json makes its session"

@@ -13,30 +13,30 @@ TIMER, SWITCHES, SERIAL, STATUS, MOUSE, KEY = 0, 4, 8, 12, 24, 28
 
 
 def reg(op: int, a: int, b: int, c: int) -> int:
-    """An operation with a register operand."""
+    """Returns an operation with a register operand."""
     return a << 24 | b << 20 | op << 16 | c
 
 
 def imm(op: int, a: int, b: int, value: int) -> int:
-    """An operation with an immediate operand from -65,536 to 65,535."""
+    """Returns an operation with an immediate operand from -65,536 to 65,535."""
     return 1 << 30 | (value < 0) << 28 | a << 24 | b << 20 | op << 16 | value & 0xFFFF
 
 
 def load(a: int, b: int, offset: int) -> int:
-    """A load of a word from R.b + offset."""
+    """Returns a load of a word from R.b + offset."""
     return 2 << 30 | a << 24 | b << 20 | offset & 0xFFFFF
 
 
 def store(a: int, b: int, offset: int) -> int:
-    """A store of a word to R.b + offset."""
+    """Returns a store of a word to R.b + offset."""
     return U | load(a, b, offset)
 
 
 def branch(condition: int, offset: int) -> int:
-    """A branch to the word that many words after the next one."""
+    """Returns a branch to the word that many words after the next one."""
     return 3 << 30 | U | condition << 24 | offset & 0x3FFFFF
 
 
 def branch_register(condition: int, c: int) -> int:
-    """A branch to the byte address in a register."""
+    """Returns a branch to the byte address in a register."""
     return 3 << 30 | condition << 24 | c

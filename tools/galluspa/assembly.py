@@ -9,11 +9,10 @@ import struct
 from collections.abc import Iterator, Sequence
 from dataclasses import dataclass, field
 
-from galluspa.assembler import DEVICES, KEY, MOUSE, SERIAL, STATUS, SWITCHES, TIMER
 from galluspa.expressions import Value, deeper, evaluate
+from galluspa.language import LANGUAGE, MOST, advice
 from galluspa.mnemonics import REGISTER, SPECIALS, encoded, operand_of, register_of
 from galluspa.others import REGISTERS, alike_of
-from galluspa.recording import DISPLAY_START
 from galluspa.sessions import MEMORY_BYTES
 from galluspa.sources import SourceLine, lines_of
 from galluspa.statements import (
@@ -32,34 +31,20 @@ from galluspa.statements import (
     is_string,
     statement_of,
 )
-from galluspa.tokens import Token, Wrong
+from galluspa.tokens import Token, Wrong, wrong
 
 # The addresses of the device words, as the immediate operand of MOV writes them, and that of the display.
-BUILT_IN = {
-    **{
-        name: DEVICES + offset - (1 << 32)
-        for name, offset in (
-            ("TIMER", TIMER),
-            ("SWITCHES", SWITCHES),
-            ("LEDS", SWITCHES),
-            ("SERIAL", SERIAL),
-            ("STATUS", STATUS),
-            ("MOUSE", MOUSE),
-            ("KEY", KEY),
-        )
-    },
-    "DISPLAY": DISPLAY_START,
-}
+BUILT_IN: dict[str, int] = LANGUAGE["addresses"]
 # Each in capital letters, and its place among the names: after all those that a source defines.
 BUILT_IN_SPELLED = {name: ((1 << 32) + at, name) for at, name in enumerate(BUILT_IN)}
 
 # The names of registers in Project Oberon, unless a source gives them to something else.
-REGISTER_NAMES = {"SP": 14, "LNK": 15}
+REGISTER_NAMES: dict[str, int] = LANGUAGE["registers"]
 
 # A number that another assembler may read.
 HEXADECIMAL = re.compile(r"[A-Fa-f][0-9A-Fa-f]*[Hh]")
 # To so many names that are not defined, and no more, is said what may be meant.
-SUGGESTIONS = 1000
+SUGGESTIONS = MOST["suggestions"]
 # With how many bits the offsets of branches may be written.
 NARROW, WIDE = 22, 24
 
@@ -115,25 +100,25 @@ class Assembly:
             self.problems.append(Problem(line, wrong.column, str(wrong)))
 
     def source(self, line: int) -> SourceLine:
-        """The line of a file that a line of all sources is."""
+        """Returns the line of a file that a line of all sources is."""
         return self.sources[line - 1]
 
     def line_text(self, line: int, near: int) -> str:
-        """How a line is named in a message at another one: with its file, if that is another one."""
+        """Returns how a line is named in a message at another one: with its file, if that is another one."""
         source = self.source(line)
         return f"line {source.number}" + (f" of {source.file}" if source.file != self.source(near).file else "")
 
     def register_of(self, name: str) -> int | None:
-        """The number of a register by a name for it; None of any other name."""
+        """Returns the number of a register by a name for it; None of any other name."""
         number = self.registers.get(name, register_of(name))
         return REGISTER_NAMES.get(name.upper()) if number is None and name not in self.lines else number
 
     def value(self, argument: Argument, here: int, depth: int = 0) -> Value:
-        """The value of an argument of a statement at an address."""
+        """Returns the value of an argument of a statement at an address."""
         return evaluate(argument.tokens, argument.end, self.named, here, depth)
 
     def named(self, token: Token, depth: int = 0) -> Value:
-        """What a name stands for, in an expression that is so deep."""
+        """Returns what a name stands for, in an expression that is so deep."""
         name = token.text
         if name in self.labels:
             return Value(self.labels[name], True)
@@ -142,23 +127,23 @@ class Assembly:
         if name.upper() in BUILT_IN:
             return Value(BUILT_IN[name.upper()])
         if self.register_of(name) is not None or name.upper() in SPECIALS:
-            raise Wrong(token.column, f"{name} is a register, where a number is wanted")
-        raise Wrong(token.column, f"{name} is not defined{' above' if name in self.lines else self._advice(name)}")
+            raise wrong(token.column, "wanted", name=name)
+        raise wrong(token.column, "undefined", name=name, advice=advice("above") if name in self.lines else self._advice(name))
 
     def _advice(self, name: str) -> str:
-        """What may be meant by a name that is not defined."""
+        """Returns what may be meant by a name that is not defined."""
         if register := REGISTERS.get(name.upper()):
             return f": {register}"
         if HEXADECIMAL.fullmatch(name):
-            return f": a number that ends with H begins with a digit, 0{name}"
+            return advice("hexadecimal", name=name)
         self.suggestions += 1
         meant = alike_of(name, self.spelled) if self.suggestions <= SUGGESTIONS else ""
-        return f": did you mean {meant}?" if meant else ""
+        return advice("meant", meant=meant) if meant else ""
 
     def _constant(self, token: Token, depth: int) -> Value:
         name = token.text
         if name in self.open:
-            raise Wrong(token.column, f"the value of {name} depends on itself")
+            raise wrong(token.column, "itself", name=name)
         if name in self.known:
             return self.known[name]
         statement, depth = self.constants[name], deeper(depth, token)
@@ -171,7 +156,7 @@ class Assembly:
 
 
 def assembled(source: str | Sequence[SourceLine]) -> Assembly:
-    """A source, assembled, or the lines of several; it has a memory only if there are no problems."""
+    """Returns a source, assembled, or the lines of several; it has a memory only if there are no problems."""
     it = Assembly(lines_of(source) if isinstance(source, str) else source)
     for number, line in enumerate(it.sources, 1):
         with it.keeping(number):
@@ -208,7 +193,7 @@ def _lay_out(it: Assembly, statement: Statement) -> None:
     if statement.does == OFFSETS:
         it.is_narrow = _offset_bits(it, statement) == NARROW
     elif statement.does == INCLUDE:
-        raise Wrong(statement.name.column, 'include needs a line of its own, and a file, as in include "x.asm"')
+        raise wrong(statement.name.column, "include")
     elif statement.does == CONSTANT and (register := _named_register(it, statement)) is not None:
         _define(it, statement.line, statement.name)
         it.registers[statement.name.text] = register
@@ -220,11 +205,11 @@ def _lay_out(it: Assembly, statement: Statement) -> None:
         region.end += statement.size
         if region.end > MEMORY_BYTES and not region.is_beyond:
             region.is_beyond = True
-            raise Wrong(statement.name.column, f"from here on it is beyond the memory of {MEMORY_BYTES:,} bytes")
+            raise wrong(statement.name.column, "beyond", bytes=MEMORY_BYTES)
 
 
 def _named_register(it: Assembly, statement: Statement) -> int | None:
-    """The register that a statement gives a name to; None if it defines a constant."""
+    """Returns the register that a statement gives a name to; None if it defines a constant."""
     tokens = statement.arguments[0].tokens
     return it.register_of(tokens[0].text) if len(tokens) == 1 else None
 
@@ -233,11 +218,11 @@ def _define(it: Assembly, line: int, name: Token) -> None:
     text = name.text
     if REGISTER.fullmatch(text) or text.upper() in SPECIALS or text.upper() in BUILT_IN:
         what = "device" if text.upper() in BUILT_IN else "register"
-        raise Wrong(name.column, f"{text} is the name of a {what}")
+        raise wrong(name.column, "taken", name=text, what=what)
     if text.endswith("'"):
-        raise Wrong(name.column, f"{text} has an apostrophe, which no name has")
+        raise wrong(name.column, "apostrophe", name=text)
     if text in it.lines:
-        raise Wrong(name.column, f"{text} is defined in {it.line_text(it.lines[text], line)} already")
+        raise wrong(name.column, "twice", name=text, where=it.line_text(it.lines[text], line))
     it.spelled.setdefault(text.upper(), (len(it.lines), text))
     it.lines[text] = line
 
@@ -253,7 +238,7 @@ def _region_of(it: Assembly, statement: Statement) -> Region:
     argument = only(statement)
     start = it.value(argument, it.regions[-1].end).number
     if not 0 <= start < MEMORY_BYTES:
-        raise Wrong(argument.column, f"the origin {start:,} is not a byte address from 0 to {MEMORY_BYTES - 1:,}")
+        raise wrong(argument.column, "origin", number=start, most=MEMORY_BYTES - 1)
     return Region(statement.line, statement.name.column, start, start)
 
 
@@ -261,14 +246,14 @@ def _offset_bits(it: Assembly, statement: Statement) -> int:
     argument = only(statement)
     bits = it.value(argument, statement.here).number
     if bits not in (NARROW, WIDE):
-        raise Wrong(argument.column, f"offsets have {NARROW} or {WIDE} bits")
+        raise wrong(argument.column, "offsets", narrow=NARROW, wide=WIDE)
     return bits
 
 
 def only(statement: Statement) -> Argument:
-    """The one argument of a statement."""
+    """Returns the one argument of a statement."""
     if len(statement.arguments) != 1:
-        raise Wrong(statement.name.column, f"{statement.name.text} needs one value")
+        raise wrong(statement.name.column, "oneValue", name=statement.name.text)
     return statement.arguments[0]
 
 
@@ -283,13 +268,13 @@ def _find_overlaps(it: Assembly) -> None:
             first, second = sorted((furthest, region), key=lambda one: one.line)
             last = min(region.end, furthest.end) - 1
             where = it.line_text(first.line, second.line)
-            text = f"the bytes from {region.start:X}H to {last:X}H are filled from {where} on, too"
-            it.problems.append(Problem(second.line, second.column, text))
+            with it.keeping(second.line):
+                raise wrong(second.column, "filled", first=region.start, last=last, where=where)
         furthest = max(furthest, region, key=lambda one: one.end)
 
 
 def _contents(it: Assembly) -> Iterator[tuple[int, bytes]]:
-    """The bytes of each statement that fills some, with their address."""
+    """Yields the bytes of each statement that fills some, with their address."""
     for statement in it.statements:
         with it.keeping(statement.line):
             if statement.does == INSTRUCTION:
@@ -305,22 +290,22 @@ def _instruction(it: Assembly, statement: Statement) -> int:
 
 def _data(it: Assembly, statement: Statement) -> bytes:
     if not statement.arguments:
-        raise Wrong(statement.name.column, f"{statement.name.text} needs a value")
+        raise wrong(statement.name.column, "data", name=statement.name.text)
     if statement.does == WORD:
         return b"".join(_packed(it, argument, statement.here, 4) for argument in statement.arguments)
     if statement.does == STRING and not all(map(is_string, statement.arguments)):
-        raise Wrong(statement.arguments[0].column, "string needs a text in quotation marks; byte takes numbers")
+        raise wrong(statement.arguments[0].column, "string")
     parts = (content(one) if is_string(one) else _packed(it, one, statement.here, 1) for one in statement.arguments)
     return b"".join(parts) + b"\0" * (statement.does == STRING)
 
 
 def _packed(it: Assembly, argument: Argument, here: int, size: int) -> bytes:
-    """The bytes of a number, the lowest first; a number below 0 is written modulo 2^8 or 2^32."""
+    """Returns the bytes of a number, the lowest first; a number below 0 is written modulo 2^8 or 2^32."""
     end = 1 << 8 * size
     number = it.value(argument, here).number
     if not -end // 2 <= number < end:
         what = "word" if size == 4 else "byte"
-        raise Wrong(argument.column, f"{number:,} is not a {what} from {-end // 2:,} to {end - 1:,}")
+        raise wrong(argument.column, "packed", number=number, what=what, least=-end // 2, most=end - 1)
     return (number % end).to_bytes(size, "little")
 
 

@@ -56,13 +56,22 @@ def stop(number: int) -> None:
         raise _signalled
 
 
+def begin_anew() -> None:
+    """Has a process that this one forked begin with nothing that runs. Raises `Signalled` if it is told to end already."""
+    global _is_shielded
+    _running.clear()
+    _is_shielded = False
+    if _signalled:
+        raise _signalled
+
+
 def is_ending() -> bool:
-    """Whether a signal ends the tool. A thread that works for long asks this now and then."""
+    """Returns whether a signal ends the tool. A thread that works for long asks this now and then."""
     return _signalled is not None
 
 
 @contextlib.contextmanager
-def _shielded() -> Iterator[None]:
+def shielded() -> Iterator[None]:
     """What an exception must not break in the main thread: to begin a program, and to wait for threads."""
     global _is_shielded
     is_main = threading.current_thread() is threading.main_thread()
@@ -93,34 +102,51 @@ def output_of(command: Sequence[str | Path], given: bytes | BinaryIO = b"", *, l
             _running.discard(child)
 
 
+@contextlib.contextmanager
+def kept(command: Sequence[str | Path]) -> Iterator[subprocess.Popen[bytes]]:
+    """Runs a program for as long as it is needed, with pipes to its standard input and from its standard output, which do
+    not block; kills it then. Raises OSError if it can't be begun."""
+    with _begun(command, subprocess.PIPE) as child:
+        try:
+            for pipe in (child.stdin, child.stdout):
+                os.set_blocking(cast(IO[bytes], pipe).fileno(), False)
+            yield child
+        finally:
+            _kill(child)
+            _running.discard(child)
+            # What was not written is dropped.
+            with contextlib.suppress(OSError):
+                cast(IO[bytes], child.stdin).close()
+
+
 def in_parallel(jobs: int, function: Callable[[T], U], items: Iterable[T]) -> Iterator[U]:
-    """What a function gives of items, in their order, so many of them at a time. Programs whose answers nobody takes
+    """Yields what a function gives of items, in their order, so many of them at a time. Programs whose answers nobody takes
     any more are killed."""
     # Imported here, since most tools do without, and begin sooner.
     from concurrent.futures import ThreadPoolExecutor, wait
 
     pool = ThreadPoolExecutor(jobs)
     try:
-        with _shielded():
+        with shielded():
             futures = [pool.submit(function, it) for it in items]
         for future in futures:
             is_done = False
             while not is_done:
-                with _shielded():
+                with shielded():
                     is_done = bool(wait([future], WAIT_SECONDS).done)
-            with _shielded():
+            with shielded():
                 result = future.result()
             yield result
     finally:
         for child in list(_running):
             _kill(child)
-        with _shielded():
+        with shielded():
             pool.shutdown(cancel_futures=True)
 
 
 def _begun(command: Sequence[str | Path], source: int | BinaryIO) -> subprocess.Popen[bytes]:
     """Begins a program, and notes that it runs."""
-    with _shielded():
+    with shielded():
         # A group of its own, so that what it has begun ends with it, too.
         child = subprocess.Popen(command, stdin=source, stdout=subprocess.PIPE, process_group=0)
         _running.add(child)
@@ -137,14 +163,14 @@ def _kill(child: subprocess.Popen[bytes]) -> None:
 
 
 def _status(child: subprocess.Popen[bytes], limit: Limit | None) -> int:
-    """The status of a program that prints nothing more, once it has ended."""
+    """Returns the status of a program that prints nothing more, once it has ended."""
     while True:
         with contextlib.suppress(subprocess.TimeoutExpired):
             return child.wait(min(WAIT_SECONDS, limit.left()) if limit else WAIT_SECONDS)
 
 
 def _exchanged(child: subprocess.Popen[bytes], given: bytes, limit: Limit | None, most: int) -> bytes:
-    """What a program prints, while it is given bytes."""
+    """Returns what a program prints, while it is given bytes."""
     output, left, printed = bytearray(), memoryview(given), cast(IO[bytes], child.stdout)
     with selectors.DefaultSelector() as ready:
         ready.register(printed, selectors.EVENT_READ)
@@ -168,7 +194,7 @@ def _exchanged(child: subprocess.Popen[bytes], given: bytes, limit: Limit | None
 
 
 def _written(pipe: IO[bytes], content: memoryview) -> int:
-    """How many bytes are out of the way once a pipe took what it could: all of them if nobody reads any more."""
+    """Returns how many bytes are out of the way once a pipe took what it could: all of them if nobody reads any more."""
     try:
         return os.write(pipe.fileno(), content[:AT_ONCE]) if content else 0
     except BlockingIOError:

@@ -41,24 +41,24 @@ class Covered:
 
     @property
     def entered(self) -> int:
-        """How often the first word was executed."""
+        """Returns how often the first word was executed."""
         return self.visits.get(self.procedure.at, 0)
 
     @property
     def instructions(self) -> int:
-        """How many instructions were executed in it."""
+        """Returns how many instructions were executed in it."""
         return sum(self.visits.values())
 
     @property
     def shares(self) -> tuple[Share, Share, Share, Share]:
-        """How many procedures, words, lines, and ways of its branches were executed: of this procedure alone, and of
-        its words."""
+        """Returns how many procedures, words, lines, and ways of its branches were executed: of this procedure alone,
+        and of its words."""
         ways = [count for it in self.branches for count in (it.taken, it.passed)]
         return (Share(int(self.instructions > 0), 1), _share(self.visits.values()), _share(self.lines.values()), _share(ways))
 
     @property
     def missing(self) -> list[range]:
-        """The words that were not executed, in ranges of those that follow one another."""
+        """Returns the words that were not executed, in ranges of those that follow one another."""
         numbers = [at for at, count in self.visits.items() if not count]
         groups = groupby(enumerate(numbers), lambda it: it[1] - it[0])
         runs = [[at for _, at in group] for _, group in groups]
@@ -66,7 +66,7 @@ class Covered:
 
 
 def _share(counts: Iterable[int]) -> Share:
-    """How many of these counts are above 0."""
+    """Returns how many of these counts are above 0."""
     numbers = list(counts)
     return Share(sum(it > 0 for it in numbers), len(numbers))
 
@@ -81,7 +81,7 @@ class CodeCoverage:
 
     @staticmethod
     def of(seen: Executions, symbols: Symbols) -> "CodeCoverage":
-        """The coverage of what runs executed, by the names of a symbol file."""
+        """Returns the coverage of what runs executed, by the names of a symbol file."""
         procedures = Procedures(seen, symbols)
         executed = {it.at: it for it in seen.branches()}
 
@@ -99,19 +99,19 @@ class CodeCoverage:
         return CodeCoverage(seen, procedures, [covered(*it) for it in procedures.all().items()])
 
     def modules(self) -> dict[str, list[Covered]]:
-        """The procedures of each module, in the order of the memory."""
+        """Returns the procedures of each module, in the order of the memory."""
         found: dict[str, list[Covered]] = {}
         for it in self.covered:
             found.setdefault(it.procedure.module, []).append(it)
         return found
 
     def place(self, at: int) -> str:
-        """A word by name, with its line of the source if it is known."""
+        """Returns a word by name, with its line of the source if it is known."""
         source = self.procedures.source(at)
         return f"{self.procedures.place(at)} ({source.text})" if source.file else self.procedures.place(at)
 
     def text(self) -> Iterator[str]:
-        """The coverage as lines of text."""
+        """Yields the coverage as lines of text."""
         if self.seen.changed:
             yield f"{len(self.seen.changed):,} words are not always the same: they count for no branch"
         rows = [(name, total(its)) for name, its in self.modules().items()]
@@ -126,7 +126,7 @@ class CodeCoverage:
         yield from self._missing()
 
     def _missing(self) -> Iterator[str]:
-        """The lines that say what was not executed: procedures, words and ways of branches."""
+        """Yields the lines that say what was not executed: procedures, words and ways of branches."""
         for it in self.covered:
             if not it.instructions:
                 yield f"never executed: {self.place(it.procedure.at)}, {len(it.visits):,} words"
@@ -140,7 +140,7 @@ class CodeCoverage:
                 yield f"never {never}: the branch at {self.place(branch.at)}, executed {times:,} times"
 
     def as_object(self) -> dict[str, object]:
-        """The coverage for other programs: numbers and names alone."""
+        """Returns the coverage for other programs: numbers and names alone."""
         return {
             "instructions": self.seen.instructions,
             "changed": sorted(self.seen.changed),
@@ -148,7 +148,7 @@ class CodeCoverage:
         }
 
     def _procedure(self, it: Covered) -> dict[str, object]:
-        """The coverage of a procedure for other programs."""
+        """Returns the coverage of a procedure for other programs."""
         return {
             "name": it.procedure.name,
             "module": it.procedure.module,
@@ -160,7 +160,7 @@ class CodeCoverage:
         }
 
     def lcov(self) -> Iterator[str]:
-        """The coverage as lines of a tracefile of lcov, for the lines of sources that are known."""
+        """Yields the coverage as lines of a tracefile of lcov, for the lines of sources that are known."""
         files = sorted({file for it in self.covered for file, _ in it.lines})
         for file in files:
             yield "TN:"
@@ -169,7 +169,7 @@ class CodeCoverage:
             yield "end_of_record"
 
     def _lcov_of(self, file: str) -> Iterator[str]:
-        """The lines of a tracefile for a file of sources."""
+        """Yields the lines of a tracefile for a file of sources."""
         begun = [it for it in self.covered if it.procedure.source.file == file]
         yield from (f"FN:{it.procedure.source.line},{it.procedure.name}" for it in begun)
         yield from (f"FNDA:{it.entered},{it.procedure.name}" for it in begun)
@@ -189,13 +189,13 @@ class CodeCoverage:
         yield from (f"LF:{len(lines)}", f"LH:{sum(it > 0 for it in lines.values())}")
 
     def _branches_of(self, file: str) -> list[tuple[Source, Branch]]:
-        """The branches of a file of sources, with their lines, by rising line."""
+        """Returns the branches of a file of sources, with their lines, by rising line."""
         found = ((self.procedures.source(branch.at), branch) for it in self.covered for branch in it.branches)
         return sorted((it for it in found if it[0].file == file), key=lambda it: (it[0].line, it[1].at))
 
 
 def total(covered: Iterable[Covered]) -> list[Share]:
-    """The procedures, words, lines and ways of branches of several procedures that were executed."""
+    """Returns the procedures, words, lines and ways of branches of several procedures that were executed."""
     shares = [Share()] * 4
     for it in covered:
         shares = [one + more for one, more in zip(shares, it.shares)]

@@ -41,7 +41,7 @@ class ShownModule:
 
 
 def page(name: str, summary: str, unread: Sequence[str], found: CodeCoverage) -> Iterator[str]:
-    """The page, piece by piece."""
+    """Returns the page, piece by piece."""
     shares = total(found.covered)
     return (
         templates()
@@ -58,7 +58,7 @@ def page(name: str, summary: str, unread: Sequence[str], found: CodeCoverage) ->
 
 
 def _shown(it: Covered, found: CodeCoverage) -> ShownProcedure:
-    """A procedure, as the page shows it."""
+    """Returns a procedure, as the page shows it."""
     remarks = {branch.at: f"taken {branch.taken:,}, not {branch.passed:,}" for branch in it.branches}
 
     def word(at: int, visits: int) -> ShownWord:

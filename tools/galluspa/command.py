@@ -8,10 +8,11 @@ import io
 import os
 import signal
 import sys
-from collections.abc import Callable, Iterator, Sequence
+import threading
+from collections.abc import Callable, Iterable, Iterator, Sequence
 from pathlib import Path
 from types import FrameType, ModuleType
-from typing import NoReturn, TextIO
+from typing import BinaryIO, NoReturn, TextIO
 
 from galluspa import children
 from galluspa.escapes import printable
@@ -108,7 +109,7 @@ def name_as(name: str) -> None:
 
 
 def whole_number(least: int, most: int) -> Callable[[str], int]:
-    """A reader of whole numbers in a range, decimal or with 0x in front, for an option."""
+    """Returns a reader of whole numbers in a range, decimal or with 0x in front, for an option."""
 
     def read(text: str) -> int:
         value = number(text)
@@ -120,7 +121,7 @@ def whole_number(least: int, most: int) -> Callable[[str], int]:
 
 
 def number(text: str) -> int | None:
-    """The whole number that a text writes, decimal or hexadecimal with 0x in front; None if it writes none."""
+    """Returns the whole number that a text writes, decimal or hexadecimal with 0x in front; None if it writes none."""
     digits = text.strip().lower()
     hexadecimal = digits.startswith("0x")
     digits = digits[2:] if hexadecimal else digits
@@ -133,10 +134,18 @@ def number(text: str) -> int | None:
 
 
 def read_file(path: str | Path, most: int = MOST) -> bytes:
-    """The bytes of a file, but no more than so many."""
+    """Returns the bytes of a file, but no more than so many."""
     try:
         with open(path, "rb") as file:
             return file.read(most)
+    except (OSError, ValueError) as error:
+        raise Refused(f"{path}: {_why(error)}") from error
+
+
+def opened_file(path: str | Path) -> BinaryIO:
+    """Returns a file that is open to be read. Raises Refused if it cannot be."""
+    try:
+        return open(path, "rb")
     except (OSError, ValueError) as error:
         raise Refused(f"{path}: {_why(error)}") from error
 
@@ -182,7 +191,8 @@ def _write_into(path: str | Path, content: bytes) -> None:
 
 
 def _replace(path: str | Path, target: Path, content: bytes) -> None:
-    new = target.with_name(f".galluspa-{os.getpid()}")
+    # Threads write side by side.
+    new = target.with_name(f".galluspa-{os.getpid()}-{threading.get_ident()}")
     with open(new, "xb") as file:
         try:
             with _failing(path):
@@ -207,13 +217,18 @@ def _failing(path: str | Path) -> Iterator[None]:
 
 def write_bytes(content: bytes) -> None:
     """Prints bytes that are not text: into a file or a pipe, and on no terminal, which they might control."""
+    write_records([content])
+
+
+def write_records(records: Iterable[bytes]) -> None:
+    """Prints pieces of such bytes."""
     if sys.stdout.isatty():
         raise Refused("the output is not text: write it into a file, with > FILE")
-    sys.stdout.buffer.write(content)
+    sys.stdout.buffer.writelines(records)
 
 
 def with_libraries(name: str) -> ModuleType:
-    """A module that stands on libraries: imported only if it is wanted, so that all else does without them."""
+    """Returns a module that stands on libraries: imported only if it is wanted, so that all else does without them."""
     try:
         return importlib.import_module(name)
     except ModuleNotFoundError as error:
@@ -280,7 +295,7 @@ def escape_unwritable(stream: TextIO, encoding: str | None = None) -> None:
 
 
 def _flushed(status: int) -> int:
-    """The status, once all that was printed is written; that of a failure if it is not."""
+    """Returns the status, once all that was printed is written; that of a failure if it is not."""
     try:
         sys.stdout.flush()
         return status

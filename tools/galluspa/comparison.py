@@ -52,8 +52,8 @@ class _Pair:
 
 
 def found_of(one: Recording, other: Recording, only: Set[str] = PARTS.keys(), is_all: bool = False) -> Iterator[Found]:
-    """The first input in which they differ; and the first checkpoint, with the first of its parts. Or all of these.
-    Nothing if they differ in nothing of what is compared."""
+    """Yields the first input in which they differ; and the first checkpoint, with the first of its parts. Or all of
+    these. Nothing if they differ in nothing of what is compared."""
     if "inputs" in only:
         yield from _inputs(one, other, is_all)
     pages = _SamePages(one, other)
@@ -94,13 +94,13 @@ class _SamePages:
         self._numbers = [[seen.setdefault(it.page(number), len(seen)) for number in range(it.pages + 1)] for it in (one, other)]
 
     def differing(self, one: Sequence[int], other: Sequence[int]) -> list[int]:
-        """The page slots in which tables of the two recordings name pages of different contents."""
+        """Returns the page slots in which tables of the two recordings name pages of different contents."""
         own, theirs = self._numbers
         return [slot for slot, (a, b) in enumerate(zip(one, other)) if own[a] != theirs[b]]
 
 
 def _parts(it: _Pair, only: Set[str], pages: _SamePages, is_all: bool) -> Iterator[Found]:
-    """The parts in which two checkpoints of the same count differ, of those that are compared."""
+    """Yields the parts in which two checkpoints of the same count differ, of those that are compared."""
     own, theirs = states.values(it.claim), states.values(it.another)
     wanted = {name for group in only for name in PARTS[group]}
     for name, value in own.items():
@@ -116,7 +116,7 @@ def _parts(it: _Pair, only: Set[str], pages: _SamePages, is_all: bool) -> Iterat
 
 
 def _memory(it: _Pair, slots: Sequence[int]) -> Iterator[Found]:
-    """The words of memory in which two checkpoints differ first: one of each page slot."""
+    """Yields the words of memory in which two checkpoints differ first: one of each page slot."""
     for slot in slots:
         word = _first_word(it, slot, lambda _: True)
         if word:
@@ -124,7 +124,8 @@ def _memory(it: _Pair, slots: Sequence[int]) -> Iterator[Found]:
 
 
 def _separate(it: _Pair, slots: Sequence[int], only: Set[str]) -> Iterator[Found]:
-    """The same of the memory that is not the display's; and the display's, with how many dots differ, and where."""
+    """Yields the same of the memory that is not the display's; and the display's, with how many dots differ, and
+    where."""
     if "memory" in only:
         found = (_word(it, slot, word) for slot in slots if (word := _first_word(it, slot, _is_no_dots)))
         yield from islice(found, SLOTS_SHOWN)
@@ -141,7 +142,7 @@ def _separate(it: _Pair, slots: Sequence[int], only: Set[str]) -> Iterator[Found
 
 
 def _words(it: _Pair, slot: int) -> Iterator[WordChange]:
-    """The words of a page slot that differ, by their addresses in memory."""
+    """Yields the words of a page slot that differ, by their addresses in memory."""
     for word in differing(it.one.page(it.claim.table[slot]), it.other.page(it.another.table[slot])):
         yield WordChange(slot * PAGE_BYTES + word.address, word.old, word.new)
 
@@ -151,7 +152,7 @@ def _first_word(it: _Pair, slot: int, is_wanted: Callable[[int], bool]) -> WordC
 
 
 def _is_dots(address: int) -> bool:
-    """Whether a word has dots of the display."""
+    """Returns whether a word has dots of the display."""
     return DISPLAY_START <= address < DISPLAY_END
 
 
@@ -167,7 +168,7 @@ def _word(it: _Pair, slot: int, word: WordChange, is_of_display: bool = False) -
 
 
 def _dots(words: Sequence[WordChange]) -> str:
-    """How many dots differ in words of the display, between which corners, and the first of the words."""
+    """Returns how many dots differ in words of the display, between which corners, and the first of the words."""
     number, columns, rows = 0, set[int](), set[int]()
     for word in words:
         row, column = divmod(word.address - DISPLAY_START, LINE_BYTES)
@@ -180,7 +181,7 @@ def _dots(words: Sequence[WordChange]) -> str:
 
 
 def _output(one: bytes, other: bytes) -> Row:
-    """From where on what was sent differs."""
+    """Returns from where on what was sent differs."""
     least = min(len(one), len(other))
     at = next((at for at, (sent, told) in enumerate(zip(one, other)) if sent != told), least)
     return f"  out, from byte {at} on", *(_sent(it, at) for it in (one, other))

@@ -10,18 +10,18 @@ from dataclasses import dataclass
 from galluspa import states
 from galluspa.assembly import BUILT_IN
 from galluspa.command import Refused, number
+from galluspa.devices import DEVICES_AT, KEYS_AT, LEDS_AT, SERIAL_AT
 from galluspa.recording import DISPLAY_START, FLAGS, KINDS, PAGE_BYTES, PLACES
 from galluspa.sessions import MOUSE
 from galluspa.symbols import NONE, Symbols, address_of, shown
-from galluspa.tracing import LEDS_AT, Step
+from galluspa.tracing import Step
 
 # The kinds of conditions, as include/galluspa.h numbers them.
 COUNTER, STORE, CHANGE, LOAD, BECOMES, SENDS, SENDS_BYTE, TAKES, STOPS = range(1, 10)
 # A search takes no more at once.
 MOST_CONDITIONS = 64
 MEMORY_BYTES = PLACES * PAGE_BYTES
-PC_WORDS, ADDRESSES, DEVICES_AT = 1 << 22, 1 << 24, 0xFFFFC0
-SERIAL_AT, KEYS_AT = 0xFFFFC8, 0xFFFFDC
+PC_WORDS, ADDRESSES = 1 << 22, 1 << 24
 COLUMNS, ROWS, ROW_BYTES = 1024, 768, 128
 WORD = 0xFFFFFFFF
 KIND_NUMBERS = {name: kind for kind, name in KINDS.items()}
@@ -160,7 +160,7 @@ def writing(part: str | int, value: object) -> Condition | None:
 
 
 def conditions_of(words: Sequence[str], symbols: Symbols = NONE) -> list[Condition]:
-    """The conditions that the words of a command line say, which may use names; refused if they say none, or too
+    """Returns the conditions that the words of a command line say, which may use names; refused if they say none, or too
     many."""
     left, conditions = _Words(words, symbols), list[Condition]()
     while left or not conditions:
@@ -172,7 +172,7 @@ def conditions_of(words: Sequence[str], symbols: Symbols = NONE) -> list[Conditi
 
 
 def _condition(words: _Words) -> Condition:
-    """The next of the conditions that words say."""
+    """Returns the next of the conditions that words say."""
     try:
         name, (raws, is_so) = STARTS.get(words.next.lower()), _read(words)
     except ValueError as why:
@@ -182,7 +182,7 @@ def _condition(words: _Words) -> Condition:
 
 
 def _read(words: _Words) -> tuple[tuple[Raw, ...], Callable[[Step], bool] | None]:
-    """What the next condition is to the library; a ValueError says what is wrong with it."""
+    """Returns what the next condition is to the library; a ValueError says what is wrong with it."""
     if number(words.next.partition("-")[0]) is not None:
         return (Raw(COUNTER, *_range(words, "a PC", PC_WORDS, WANTED)),), None
     name = STARTS.get(words.next.lower())
@@ -220,7 +220,7 @@ def _becomes(name: str, value: int) -> tuple[tuple[Raw, ...], Callable[[Step], b
 
 
 def _value(name: str, text: str) -> int:
-    """The value that a part is to have."""
+    """Returns the value that a part is to have."""
     value = number(text.removeprefix("-"))
     if value is not None and text.startswith("-"):
         value = -value & (WORD if value <= 1 << 31 else -1)
@@ -234,12 +234,12 @@ def _value(name: str, text: str) -> int:
 
 
 def _range(words: _Words, what: str, end: int, wanted: str = WANTED_NUMBER) -> tuple[int, int]:
-    """The numbers that N or N-M, which is the next word, says."""
+    """Returns the numbers that N or N-M, which is the next word, says."""
     return _numbers(words.take(), words.symbols, what, end, wanted)
 
 
 def _numbers(text: str, symbols: Symbols, what: str, end: int, wanted: str) -> tuple[int, int]:
-    """The numbers that N or N-M says, from one up to another that is not one of them. They are below an end. What is
+    """Returns the numbers that N or N-M says, from one up to another that is not one of them. They are below an end. What is
     wanted is said if it says none. An address may be a name, and so may a PC, which counts words."""
     first, last = _ends(text, symbols)
     one, other = (_number(it, symbols, end) for it in (first, last))
@@ -254,13 +254,13 @@ def _numbers(text: str, symbols: Symbols, what: str, end: int, wanted: str) -> t
 
 
 def _ends(text: str, symbols: Symbols) -> tuple[str, str]:
-    """The two texts of N-M, or N twice; a name may have a dash in it."""
+    """Returns the two texts of N-M, or N twice; a name may have a dash in it."""
     first, dash, last = text.partition("-")
     return (first, last) if dash and not symbols.places(text) else (text, text)
 
 
 def _number(text: str, symbols: Symbols, end: int) -> int | None:
-    """The number that a text is, below an end of which the kind of the number is known; or that its name stands for."""
+    """Returns the number that a text is, below an end of which the kind of the number is known; or that its name stands for."""
     named = NAMED.get(text.upper()) if end == ADDRESSES else None
     value = number(text) if named is None else named
     if value is not None or end not in (ADDRESSES, PC_WORDS):
@@ -272,7 +272,7 @@ def _number(text: str, symbols: Symbols, end: int) -> int | None:
 
 
 def _hint(text: str, unknown: str, symbols: Symbols) -> str:
-    """What to write in place of a number as it is written elsewhere, or of a name; nothing of other texts."""
+    """Returns what to write in place of a number as it is written elsewhere, or of a name; nothing of other texts."""
     if found := HEXADECIMAL.fullmatch(text):
         return f"write 0x{(found[1] or found[2]).lstrip('0') or '0'}: numbers are decimal, or have 0x in front"
     if symbols and NAME.fullmatch(unknown):
@@ -287,7 +287,7 @@ def _hint(text: str, unknown: str, symbols: Symbols) -> str:
 
 
 def _place(words: _Words, has_devices: bool) -> _Place:
-    """The place that the next words name."""
+    """Returns the place that the next words name."""
     name = words.take()
     if name == "page":
         first, end = _range(words, "a page", PLACES)
@@ -309,7 +309,7 @@ def _place(words: _Words, has_devices: bool) -> _Place:
 
 
 def _dot(text: str) -> _Place:
-    """The word of a dot of the screen, and its bit."""
+    """Returns the word of a dot of the screen, and its bit."""
     column, row = (number(part) for part in (text.split(",") if text.count(",") == 1 else ("", "")))
     if column is None or row is None or column >= COLUMNS or row >= ROWS:
         raise ValueError(f"expected dot X,Y, with X below {COLUMNS} and Y below {ROWS}, from the left and from below")

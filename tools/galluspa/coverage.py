@@ -8,38 +8,25 @@ from collections import Counter
 from collections.abc import Iterator, Set
 from dataclasses import dataclass, field
 
+from galluspa import contrasts
+from galluspa.cells import DEVICES, MOVES, RAM_END, Cell, Row, Table, bit, is_move, is_operation, move_of, operand_of, signed
+from galluspa.command import progress
 from galluspa.instructions import ALWAYS, CONDITIONS, NEVER, OPERATIONS
+from galluspa.limits import TimeIsUp
 from galluspa.recording import KINDS, Checkpoint
-from galluspa.steps import Step
+from galluspa.tracing import Step
 
-Cell = tuple[str, str, str]
-# A row of a table.
-Row = tuple[str, str]
-
-
-@dataclass(frozen=True)
-class Table:
-    """Things to exercise: the name of the table, what it says, its rows and columns, and the cells that can't be."""
-
-    name: str
-    about: str
-    rows: list[str]
-    columns: list[str]
-    absent: frozenset[tuple[str, str]] = frozenset()
-
-    def cells(self) -> Iterator[Cell]:
-        """The cells that can be."""
-        for row in self.rows:
-            yield from ((self.name, row, column) for column in self.columns if (row, column) not in self.absent)
-
+# After so many instructions it is shown how far a recording is counted.
+TOLD_EVERY = 4000
 
 OPERANDS = ["R", "R u", "R v", "R u v", "im", "im u", "im v", "im u v"]
 WITHOUT_FLOATS = OPERATIONS[:12]
 BRANCHES = [f"B{name}" for name in CONDITIONS]
 TARGETS = [f"{target}{link} {way}" for target in ("R", "offset") for link in ("", " link") for way in ("taken", "not")]
-MOVES = ["LDR", "LDB", "STR", "STB"]
 LANES = [f"lane {lane}" for lane in range(4)]
 WORDS = [f"{word} (FFFF{0xC0 + 4 * word:02X})" for word in range(16)]
+SHIFTED = ["by 0", "by 1 to 31", "by 32", "by 33 to 63", "by more"]
+OF_NEGATIVE = " with bit 31"
 ADDRESSES = ["offset above 0", "offset 0", "offset below 0", "sum below 0", "sum past FFFFFF"]
 
 TABLES = [
@@ -62,7 +49,12 @@ TABLES = [
         ["ADD", "ADD with carry", "SUB", "SUB with carry"],
         ["neither", "C", "V", "C and V"],
     ),
-    Table("shifts", "By how many bits, before the count is taken modulo 32.", OPERATIONS[1:4], ["by 0", "by 1 to 31", "by more"]),
+    Table(
+        "shifts",
+        "By how many bits, before the count is taken modulo 32; and whether bit 31 of the number is set.",
+        OPERATIONS[1:4],
+        [f"{amount}{of}" for amount in SHIFTED for of in ("", OF_NEGATIVE)],
+    ),
     Table(
         "branches",
         "Each condition taken and not, to a register and by an offset, with a link and without. A branch "
@@ -107,6 +99,7 @@ TABLES = [
         ],
         ["stopped"],
     ),
+    *contrasts.TABLES,
 ]
 # The tables whose rows are instructions.
 INSTRUCTIONS = ("operations", "memory", "branches")
@@ -122,33 +115,45 @@ class Coverage:
     instructions: int = 0
 
     def add(self, name: str, steps: Iterator[Step]) -> None:
-        """Counts the instructions of a recording."""
-        previous = None
-        for step in steps:
-            for cell in _cells(step, previous):
-                self.times[cell] += 1
-                self.first.setdefault(cell, name)
-            self.instructions += not step.before.stop
-            previous = step
+        """Counts the instructions of a recording, and shows how far it came. If the time is over first, what is raised
+        says how many instructions were counted."""
+        previous, past, number = None, contrasts.Past(), 0
+        try:
+            for number, step in enumerate(steps, 1):
+                self._count(name, _cells(step, previous))
+                if not step.before.stop:
+                    self._count(name, contrasts.cells(step))
+                    self._count(name, past.cells(step))
+                    self.instructions += 1
+                previous = step
+                if not number % TOLD_EVERY:
+                    progress(f"{name}: {number:,} instructions")
+        except TimeIsUp as over:
+            raise TimeIsUp(f"{over}, after {number:,} instructions" if number else f"{over}") from over
+
+    def _count(self, name: str, cells: Iterator[Cell]) -> None:
+        for cell in cells:
+            self.times[cell] += 1
+            self.first.setdefault(cell, name)
 
     def missing(self, table: Table) -> list[Cell]:
-        """The cells of a table that were not seen."""
+        """Returns the cells of a table that were not seen."""
         return [cell for cell in table.cells() if not self.times[cell]]
 
 
 def row_of(word: int) -> Row | None:
-    """The row of an instruction word among operations, memory and branches; none of a branch to the next word."""
-    if not word >> 31:
+    """Returns the row of an instruction word among operations, memory and branches; none of a branch to the next word."""
+    if is_operation(word):
         return "operations", OPERATIONS[word >> 16 & 15]
-    if word >> 30 == 2:
-        return "memory", MOVES[word >> 28 & 3]
+    if is_move(word):
+        return "memory", move_of(word)
     condition = word >> 24 & 15
-    leads_on = _bit(word, 29) and not _signed(word, 22) and condition not in (ALWAYS, NEVER)
+    leads_on = bit(word, 29) and not signed(word, 22) and condition not in (ALWAYS, NEVER)
     return None if leads_on else ("branches", BRANCHES[condition])
 
 
 def unexercised(rows: Set[Row]) -> Iterator[tuple[str, list[str]]]:
-    """The operations, the loads and stores, and the branches that are in none of these rows, with the names of their
+    """Yields the operations, the loads and stores, and the branches that are in none of these rows, with the names of their
     tables."""
     for table in TABLES:
         missing = [row for row in table.rows if (table.name, row) not in rows]
@@ -157,16 +162,16 @@ def unexercised(rows: Set[Row]) -> Iterator[tuple[str, list[str]]]:
 
 
 def _cells(step: Step, previous: Step | None) -> Iterator[Cell]:
-    """The cells that an instruction counts for; `previous` is the one that was looked at before it."""
+    """Yields the cells that an instruction counts for; `previous` is the one that was looked at before it."""
     yield from _inputs(step)
     if step.before.stop:
         return
     yield from _timer(step)
     if step.word is None:
         yield from _fetch(step, previous)
-    elif step.word >> 31 == 0:
+    elif is_operation(step.word):
         yield from _operation(step.word, step.before, step.after)
-    elif step.word >> 30 == 2:
+    elif is_move(step.word):
         yield from _move(step, step.word)
     else:
         yield from _branch(step.word, step.before, step.after)
@@ -190,48 +195,42 @@ def _timer(step: Step) -> Iterator[Cell]:
 
 
 def _fetch(step: Step, previous: Step | None) -> Iterator[Cell]:
-    """How the program counter left memory, if the instruction before was looked at."""
+    """Yields how the program counter left memory, if the instruction before was looked at."""
     if previous and previous.word is not None and previous.after.count == step.before.count:
         is_going_on = step.before.pc == previous.before.pc + 1
         yield "stops", "fetch, by going on" if is_going_on else "fetch, by a branch", "stopped"
 
 
-def _bit(word: int, place: int) -> int:
-    return word >> place & 1
-
-
-def _signed(word: int, bits: int) -> int:
-    low = word & (1 << bits) - 1
-    return low - (low >> bits - 1 << bits)
-
-
 def _result(name: str, after: Checkpoint) -> Cell:
-    """How N and Z stand after a register was written."""
+    """Returns how N and Z stand after a register was written."""
     return "results", name, "negative" if after.flags & 8 else "zero" if after.flags & 4 else "positive"
 
 
 def _operation(word: int, before: Checkpoint, after: Checkpoint) -> Iterator[Cell]:
-    op, u, v = word >> 16 & 15, _bit(word, 29), _bit(word, 28)
-    is_immediate = _bit(word, 30)
-    immediate = _signed(word, 16) if v else word & 0xFFFF
-    operand = immediate if is_immediate else before.registers[word & 15]
-    name = OPERATIONS[op]
-    yield "operations", name, ("im" if is_immediate else "R") + " u" * u + " v" * v
+    op, u, v = word >> 16 & 15, bit(word, 29), bit(word, 28)
+    operand, name = operand_of(word, before.registers), OPERATIONS[op]
+    yield "operations", name, ("im" if bit(word, 30) else "R") + " u" * u + " v" * v
     if name in OPERATIONS[1:4]:
-        yield "shifts", name, "by 0" if operand == 0 else "by 1 to 31" if 0 < operand < 32 else "by more"
+        is_negative = bit(before.registers[word >> 20 & 15], 31)
+        yield "shifts", name, _amount(operand) + OF_NEGATIVE * is_negative
     if name == "DIV" and after.stop:
         yield "stops", "divisor " + ("0" if operand == 0 else "below 0") + ", with u" * u, "stopped"
     if after.stop:
         return
     yield _result(name, after)
     if name in ("ADD", "SUB"):
-        row = name + " with carry" * (u and _bit(before.flags, 1))
+        row = name + " with carry" * (u and bit(before.flags, 1))
         yield "carry and overflow", row, ("neither", "V", "C", "C and V")[after.flags & 3]
 
 
+def _amount(operand: int) -> str:
+    """By how many bits a shift goes, as the table of shifts names it."""
+    return SHIFTED[4 if operand > 63 else 3 if operand > 32 else 2 if operand == 32 else 1 if operand else 0]
+
+
 def _move(step: Step, word: int) -> Iterator[Cell]:
-    name = MOVES[2 * _bit(word, 29) + _bit(word, 28)]
-    offset, base = _signed(word, 20), step.before.registers[word >> 20 & 15]
+    name = move_of(word)
+    offset, base = signed(word, 20), step.before.registers[word >> 20 & 15]
     address = (base + offset) % (1 << 24)
     if step.after.stop:
         yield "stops", f"address, by {name}", "stopped"
@@ -241,14 +240,14 @@ def _move(step: Step, word: int) -> Iterator[Cell]:
         yield "memory", name, "sum below 0" if base + offset < 0 else "sum past FFFFFF"
     if name.startswith("LD"):
         yield _result(name, step.after)
-    if address < 1 << 20:
+    if address < RAM_END:
         yield "memory", name, LANES[address % 4]
     else:
         yield from _device(step, name, address)
 
 
 def _device(step: Step, name: str, address: int) -> Iterator[Cell]:
-    word = (address - 0xFFFFC0) // 4
+    word = (address - DEVICES) // 4
     yield "device words", WORDS[word], name
     if name.endswith("B"):
         yield "device bytes", name, LANES[address % 4]
@@ -263,9 +262,9 @@ def _device(step: Step, name: str, address: int) -> Iterator[Cell]:
 
 
 def _branch(word: int, before: Checkpoint, after: Checkpoint) -> Iterator[Cell]:
-    condition, link, by_offset = word >> 24 & 15, _bit(word, 28), _bit(word, 29)
+    condition, link, by_offset = word >> 24 & 15, bit(word, 28), bit(word, 29)
     following = (before.pc + 1) % (1 << 22)
-    target = (following + _signed(word, 22)) % (1 << 22) if by_offset else before.registers[word & 15] // 4 % (1 << 22)
+    target = (following + signed(word, 22)) % (1 << 22) if by_offset else before.registers[word & 15] // 4 % (1 << 22)
     if target == following and condition not in (ALWAYS, NEVER):
         return
     is_taken = after.pc == target and condition != NEVER

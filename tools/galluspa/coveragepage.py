@@ -37,7 +37,7 @@ class ShownTable:
 
 
 def page(name: str, summary: str, unread: Sequence[str], seen: Coverage) -> Iterator[str]:
-    """The page, piece by piece."""
+    """Returns the page, piece by piece."""
     missing = sum(not seen.times[cell] for cell in CELLS)
     return (
         templates()

@@ -27,7 +27,7 @@ class Base:
     sources: Sources
 
     def here(self) -> Iterator[str]:
-        """The instruction of the count, what it changes, and its line of the source."""
+        """Yields the instruction of the count, what it changes, and its line of the source."""
         debugger = self.debugger
         step = debugger.step()
         if step is None:
@@ -45,8 +45,8 @@ class Base:
         yield from self.here()
 
     def location(self, text: str) -> Condition:
-        """The condition that the machine is at an instruction: a name, a register or *ADDRESS, a word number, or
-        FILE:LINE; of no text, at this one."""
+        """Returns the condition that the machine is at an instruction: a name, a register or *ADDRESS, a word number,
+        or FILE:LINE; of no text, at this one."""
         symbols, state = self.debugger.symbols, self.debugger.machine.seen()
         if not text:
             return at_word(state.pc)
@@ -63,7 +63,7 @@ class Base:
         return at_word(word_at(value_of(text, state, symbols), text))
 
     def place(self, text: str) -> list[str]:
-        """The words of a place of a condition. A register stands for the address that it holds now."""
+        """Returns the words of a place of a condition. A register stands for the address that it holds now."""
         words = text.split()
         if not words:
             raise Refused("expected a PLACE: an address, FIRST-LAST, a device, page N, dot X,Y or a name")
@@ -84,7 +84,7 @@ def nothing(text: str) -> None:
 
 
 def times(text: str) -> int:
-    """How many times something is to be done."""
+    """Returns how many times something is to be done."""
     times = number(text) if text else 1
     if times is None or not 1 <= times <= MOST_TIMES:
         raise Refused(f"{shown(text)} is not a number of times")
@@ -92,7 +92,7 @@ def times(text: str) -> int:
 
 
 def split(text: str) -> list[str]:
-    """Words, of which several are one in quotation marks."""
+    """Returns words, of which several are one in quotation marks."""
     try:
         return shlex.split(text)
     except ValueError as why:
@@ -100,7 +100,7 @@ def split(text: str) -> list[str]:
 
 
 def word_at(address: int, text: str) -> int:
-    """The number of the word at a byte address."""
+    """Returns the number of the word at a byte address."""
     if address % 4 or address >= MEMORY_BYTES:
         raise Refused(
             f"{shown(text)} is byte {address:X} (hexadecimal), and an instruction is at a multiple of 4 " f"below {MEMORY_BYTES:X}"

@@ -25,11 +25,12 @@ class Commands(Moves, Points, Views):
 
     @property
     def names(self) -> "dict[str, Command]":
-        """The commands by their names."""
+        """Returns the commands by their names."""
         return {name: it for it in COMMANDS for name in (it.name, *it.aliases)}
 
     def command(self, name: str) -> "Command":
-        """The command of a name, or of the beginning of one; refused if there is none, or if several are meant."""
+        """Returns the command of a name, or of the beginning of one. Raises Refused if there is none, or if several are
+        meant."""
         if name in self.names:
             return self.names[name]
         meant = {it.name: it for known, it in self.names.items() if known.startswith(name)}
@@ -40,19 +41,19 @@ class Commands(Moves, Points, Views):
         raise Refused(f"{shown(name)} is no command: help lists them")
 
     def parted(self, line: str) -> "tuple[Command, str]":
-        """The command that a line names, and its arguments."""
+        """Returns the command that a line names, and its arguments."""
         found = re.match(r"\s*([A-Za-z-]+)\s*(.*?)\s*$", line, re.DOTALL)
         if not found:
             raise Refused(f"{shown(line.strip())} is no command: help lists them")
         return self.command(found[1]), found[2]
 
     def run(self, line: str) -> Iterable[str]:
-        """The lines that a command prints."""
+        """Returns the lines that a command prints."""
         it, arguments = self.parted(line)
         return it.carry_out(self, arguments)
 
     def completions(self, line: str, word: str) -> list[str]:
-        """What may be meant by a word that is not finished: a command, or an argument after one."""
+        """Returns what may be meant by a word that is not finished: a command, or an argument after one."""
         before = line[: len(line) - len(word)].split() if line else []
         if not before:
             return sorted(name for name in self.names if name.startswith(word))

@@ -23,7 +23,7 @@ class Moves(Base):
         yield from self._along(text, self.debugger.go_on)
 
     def go_back(self, text: str) -> Iterator[str]:
-        """The same backward."""
+        """Yields the same backward."""
         yield from self._along(text, self.debugger.go_back)
 
     def _along(self, text: str, move: Callable[[], Pause]) -> Iterator[str]:
@@ -49,7 +49,7 @@ class Moves(Base):
         yield from self._repeated(text, lambda: self.debugger.step_line(is_over=False))
 
     def next_line(self, text: str) -> Iterator[str]:
-        """The same, with all that is called."""
+        """Yields the same, with all that is called."""
         yield from self._repeated(text, lambda: self.debugger.step_line(is_over=True))
 
     def next_instruction(self, text: str) -> Iterator[str]:
@@ -61,7 +61,7 @@ class Moves(Base):
         yield from self._repeated(text, lambda: self.debugger.step_back_line(is_over=False))
 
     def next_line_back(self, text: str) -> Iterator[str]:
-        """The same, over all that was called."""
+        """Yields the same, over all that was called."""
         yield from self._repeated(text, lambda: self.debugger.step_back_line(is_over=True))
 
     def next_instruction_back(self, text: str) -> Iterator[str]:

@@ -76,7 +76,7 @@ class Views(Base):
             yield "no breakpoints or watchpoints"
 
     def _inputs(self) -> Iterator[str]:
-        """The next inputs."""
+        """Yields the next inputs."""
         due: Iterable[Event] = self.debugger.run.inputs.of(self.debugger.count, self.debugger.run.end)
         some = [f"{it.count:>10}  input   {states.event(it)}" for it in islice(due, INPUTS)]
         yield from some or ["no more inputs"]
@@ -133,7 +133,7 @@ class Views(Base):
         yield with_remark(f"{value:08X}  {value - (value >> 31 << 32)}", [*filter(None, [name])])
 
     def backtrace(self, text: str) -> Iterator[str]:
-        """Who probably called."""
+        """Yields who probably called."""
         nothing(text)
         debugger = self.debugger
         yield "probably:"
@@ -141,7 +141,7 @@ class Views(Base):
             yield f"#{at:<3}{name}"
 
     def calls(self, text: str) -> Iterator[str]:
-        """The calls that have not returned, each searched in the run."""
+        """Yields the calls that have not returned, each searched in the run."""
         nothing(text)
         debugger, there = self.debugger, self.debugger.machine
         try:
@@ -155,11 +155,11 @@ class Views(Base):
             debugger.return_to(there)
 
     def _callers(self) -> Callers:
-        """What guesses who called, in the memory at this count."""
+        """Returns what guesses who called, in the memory at this count."""
         return inspection.callers_in(self.debugger.machine, self.debugger.symbols)
 
     def _place_of(self, count: int) -> str:
-        """Where the machine is: its procedure, its line of the source, and the count."""
+        """Returns where the machine is: its procedure, its line of the source, and the count."""
         state, symbols = self.debugger.machine.seen(), self.debugger.symbols
         source = symbols.source(4 * state.pc)
         return f"{self._callers().text(4 * state.pc)}{f', {source}' if source else ''}, at {count:,}"
@@ -196,7 +196,7 @@ class Views(Base):
         return inspection.instruction_lines(debugger.machine, first, count, debugger.symbols)
 
     def who(self, text: str) -> Iterator[str]:
-        """The last instruction before this count that wrote a place, or a register."""
+        """Yields the last instruction before this count that wrote a place, or a register."""
         debugger = self.debugger
         name = text.removeprefix("$").upper().replace("SP", "R14").replace("LNK", "R15")
         if name in (*REGISTERS, "H"):
@@ -225,12 +225,12 @@ class Views(Base):
 
 
 def shown_bytes(content: bytes) -> str:
-    """Bytes as characters; what is no character of ASCII, as a backslash and two digits."""
+    """Returns bytes as characters; what is no character of ASCII, as a backslash and two digits."""
     return "".join(chr(byte) if 0x20 <= byte < 0x7F and byte not in b'\\"' else f"\\{byte:02x}" for byte in content)
 
 
 def _written(value: int, kind: str, size: int, debugger: Debugger) -> str:
-    """A number of so many bytes in a format."""
+    """Returns a number of so many bytes in a format."""
     if kind == "x":
         return f"{value:0{2 * size}X}"
     if kind == "d":

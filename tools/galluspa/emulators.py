@@ -32,14 +32,13 @@ class Shown:
     sent: bytes | None
 
     def differing(self, machine: Machine, sent: Sent) -> list[str]:
-        """The names of the parts in which it and a machine differ, in the order of parts."""
+        """Returns the names of the parts in which it and a machine differ, in the order of parts."""
         if self.sent is not None and sent.length > SENT_KEPT:
             raise Refused(
                 f"{sent.length:,} bytes were sent up to {machine.count:,}, and at most {SENT_KEPT:,} are "
                 "compared: leave out `out`"
             )
-        own = states.values(machine.seen())
-        names = [name for name, value in own.items() if name in self.parts and self.parts[name] != value]
+        names = states.differing(states.values(machine.seen()), self.parts)
         names += ["out"] if self.sent is not None and self.sent != sent.first else []
         content = machine.memory() if self.memory is not None or self.digest is not None else b""
         is_other = self.memory not in (None, content) or self.digest not in (None, hashlib.sha256(content).hexdigest())
@@ -54,7 +53,7 @@ class Emulator:
     seconds: float
 
     def at(self, count: int) -> Shown:
-        """Its state at a count."""
+        """Returns its state at a count."""
         words = [word.replace(PLACE, str(count)) for word in self.words]
         command = shlex.join(words)
         try:
@@ -75,7 +74,7 @@ class Emulator:
 
 
 def _shown(command: str, shown: object) -> Shown:
-    """What an object shows; refused if a member is none, or has another type."""
+    """Returns what an object shows; refused if a member is none, or has another type."""
     if not isinstance(shown, dict) or not shown:
         raise Refused(f"{command}: the output is not an object with the parts of a state")
     readers: dict[str, Callable[[object], object]] = {

@@ -8,6 +8,7 @@ from galluspa import recording
 from galluspa.assembler import DEVICES, TIMER
 from galluspa.command import Refused
 from galluspa.instructions import address, is_store
+from galluspa.language import LANGUAGE, mistake
 from galluspa.library import WORDS, Inputs, Library, Machine
 from galluspa.limits import Limit
 from galluspa.program import ACCEPTED, Program
@@ -18,14 +19,9 @@ LONGEST_LOOP = 2000
 GROWTH = 8
 # How many instructions are done at most, if it is not said.
 MOST = 1 << 30
-STOPS, LOOPS = ENDS = ("stops", "loops")
+STOPS, LOOPS = ENDS = tuple[str, ...](LANGUAGE["ends"])
 # What to do about a stop, by its number.
-ADVICE = {
-    1: "there is no floating point",
-    2: "the divisor is below 1",
-    3: "it ran past the end of the program, or branched out of the memory; end it with a jump to itself",
-    4: "the address is neither memory nor a device",
-}
+ADVICE = {int(number): text for number, text in LANGUAGE["stops"].items()}
 TIMER_ADDRESS = (DEVICES + TIMER) & 0xFFFFFF
 
 
@@ -47,13 +43,13 @@ class Run:
         self.settled = session.inputs[-1].count + 1 if session.inputs else 0
 
     def at(self, count: int, before: Machine | None = None) -> Machine:
-        """The machine at a count, from one at a count before."""
+        """Returns the machine at a count, from one at a count before."""
         machine = (before or self.first).copy()
         self.library.advance(machine, self.inputs, count)
         return machine
 
     def stop(self, most: int) -> int | None:
-        """The first count at which the machine is stopped, up to one."""
+        """Returns the first count at which the machine is stopped, up to one."""
         before, machine = self.first, self.at(min(GROWTH, most))
         while not machine.state.stop:
             if machine.count >= most:
@@ -69,7 +65,7 @@ class Run:
         return end
 
     def loop(self, most: int) -> int | None:
-        """The first count, after all inputs and up to one, from which on the machine comes back to the same state again
+        """Returns the first count, after all inputs and up to one, from which on the machine comes back to the same state again
         and again."""
         if self.settled > most:
             return None
@@ -86,7 +82,7 @@ class Run:
             steps *= GROWTH
 
     def _loop_start(self, before: Machine, end: int, length: int) -> int:
-        """The first count, from that of a machine on, in a loop of this length that the machine is in at the end. A
+        """Returns the first count, from that of a machine on, in a loop of this length that the machine is in at the end. A
         shorter search may have missed the loop at any of the counts between, so none of them is taken to be outside."""
         while end > before.count:
             middle = self.at((before.count + end) // 2, before)
@@ -99,7 +95,7 @@ class Run:
         return end
 
     def loop_length(self, start: Machine, longest: int) -> int | None:
-        """How many instructions, up to the longest loop, bring a machine back to its state; None if none do. A loop
+        """Returns how many instructions, up to the longest loop, bring a machine back to its state; None if none do. A loop
         that reads the timer while it counts is none: it may wait for it."""
         machine = start.copy()
         for length in range(1, longest + 1):
@@ -112,7 +108,7 @@ class Run:
 
 
 def _reads_timer(machine: Machine) -> bool:
-    """Whether the next instruction loads the timer."""
+    """Returns whether the next instruction loads the timer."""
     if machine.state.pc >= WORDS:
         return False
     word = machine.words[machine.state.pc]
@@ -121,7 +117,7 @@ def _reads_timer(machine: Machine) -> bool:
 
 
 def _is_same(one: Machine, other: Machine) -> bool:
-    """Whether two machines are in the same state, but for their counts and for a timer that counts."""
+    """Returns whether two machines are in the same state, but for their counts and for a timer that counts."""
     return _parts(one) == _parts(other) and one.memory() == other.memory()
 
 
@@ -132,7 +128,7 @@ def _parts(machine: Machine) -> Sequence[object]:
 
 
 def end_of(asked: argparse.Namespace, session: Session, end: str, most: int) -> int:
-    """The count at which the run of a session `stops` or `loops`; refused if it does not by the most counts. What is
+    """Returns the count at which the run of a session `stops` or `loops`; refused if it does not by the most counts. What is
     asked names the program, the library and the limit of time."""
     limit = Limit(asked.limit)
     run = Run(Library.find(asked.library, limit), Program.find(asked.program, limit), session)
@@ -141,10 +137,8 @@ def end_of(asked: argparse.Namespace, session: Session, end: str, most: int) -> 
         return max(count, 1)
     if end == LOOPS and (stopped := run.stop(most)):
         state = run.at(stopped).state
-        raise NoEnd(
-            f"the machine enters no loop: it stops at count {stopped:,}, at word {state.pc:,}, with stop "
-            f"{state.stop}, {recording.STOPS[state.stop]}: {ADVICE[state.stop]}"
-        )
+        name = recording.STOPS[state.stop]
+        raise NoEnd(mistake("noLoop", count=stopped, word=state.pc, stop=state.stop, name=name, advice=ADVICE[state.stop]))
     if end == STOPS:
-        raise NoEnd(f"the machine does not stop within {most:,} instructions; a jump to itself is a loop, and no stop")
-    raise NoEnd(f"the machine does not enter a loop that it never leaves within {most:,} instructions")
+        raise NoEnd(mistake("noStop", most=most))
+    raise NoEnd(mistake("noEnd", most=most))

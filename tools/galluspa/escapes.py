@@ -3,13 +3,13 @@ shows it."""
 
 
 def printable(text: str) -> str:
-    """A text in one line, in which all that cannot be seen is a backslash with what stands for it, as in \\n;
+    """Returns a text in one line, in which all that cannot be seen is a backslash with what stands for it, as in \\n;
     of a name that is not UTF-8 each such byte, as in \\xff."""
     return "".join(sign if sign.isprintable() else _escape(sign) for sign in text)
 
 
 def for_tap(text: str) -> str:
-    """The same, as TAP writes a description: a backslash is doubled, and a number sign begins no directive."""
+    """Returns the same, as TAP writes a description: a backslash is doubled, and a number sign begins no directive."""
     return printable(text).replace("\\", "\\\\").replace("#", r"\#")
 
 

@@ -34,9 +34,9 @@ class Executed:
     looked_at: int = 0
 
 
-def executed(run: Run, to: int) -> Executed:
-    """What a run does up to a count, or up to where it comes in time."""
-    found, machine = Executed(), run.machine(0)
+def executed(run: Run, to: int, first: int = 0) -> Executed:
+    """Returns what a run does from a count up to another, or up to where it comes in time."""
+    found, machine = Executed(), run.machine(first)
     tries, size, limit = TRIES, FIRST_PART, Limit(SECONDS)
     while machine.count < to and tries and not limit.is_over:
         progress(f"counted what the run exercises up to {machine.count:,} of {to:,}")
@@ -58,7 +58,7 @@ def executed(run: Run, to: int) -> Executed:
 
 
 def _first_change(run: Run, machine: Machine, end: int, words: Sequence[int]) -> int | None:
-    """The first count from a machine's up to another at which one of these words of memory changes."""
+    """Returns the first count from a machine's up to another at which one of these words of memory changes."""
     groups = list(_groups(words))
     if len(groups) > GROUPS:
         groups = [range(words[0], words[-1] + 1)]
@@ -71,7 +71,7 @@ def _first_change(run: Run, machine: Machine, end: int, words: Sequence[int]) ->
 
 
 def _groups(words: Sequence[int]) -> Iterator[range]:
-    """Rising numbers as ranges of those that follow one another."""
+    """Yields rising numbers as ranges of those that follow one another."""
     first = 0
     for at, word in enumerate(words, 1):
         if at == len(words) or words[at] != word + 1:

@@ -34,7 +34,7 @@ class Executions:
 
     @property
     def instructions(self) -> int:
-        """How many instructions were executed."""
+        """Returns how many instructions were executed."""
         return sum(self.visits.values())
 
     def put(self, at: int, visits: int, departures: int, word: int) -> None:
@@ -52,27 +52,27 @@ class Executions:
         self.memory = self.memory or more.memory
 
     def branches(self) -> Iterator[Branch]:
-        """The conditional branches that were executed, by rising word number. One to the next word is none, and a word
-        that changed is none either: its counts may be those of another instruction."""
+        """Yields the conditional branches that were executed, by rising word number. One to the next word is none, and
+        a word that changed is none either: its counts may be those of another instruction."""
         for at in sorted(self.words):
             if at not in self.changed and is_conditional(self.words[at], at):
                 yield Branch(at, self.departures[at], self.visits[at] - self.departures[at])
 
 
 def is_conditional(word: int, at: int) -> bool:
-    """Whether a word is a branch with a condition that leads elsewhere than to the next word."""
+    """Returns whether a word is a branch with a condition that leads elsewhere than to the next word."""
     return is_branch(word) and word >> 24 & 15 not in (ALWAYS, NEVER) and branches_to(word, at) != at + 1
 
 
 def run_of(library: Library, content: bytes) -> Run:
-    """The machine's run of a recording's initial state and inputs, whatever its checkpoints claim. Refuses bytes that
-    are not a recording."""
+    """Returns the machine's run of a recording's initial state and inputs, whatever its checkpoints claim. Raises
+    Refused for bytes that are not a recording."""
     library.claim(content, 0)
     return Run(library, content, recording.read(content), range(1))
 
 
 def executions_of(run: Run, first: int, to: int, heard: Callable[[int], None] = ignore) -> Executions:
-    """What a run executes from a count up to another. The count after each slice is heard."""
+    """Returns what a run executes from a count up to another. The count after each slice is heard."""
     found, machine, steps = Executions(), run.machine(first), FIRST_STEPS
     while machine.count < to and not machine.state.stop and not children.is_ending():
         if run.library.limit:

@@ -4,11 +4,13 @@ part.
 The library says what the machine has, and the program draws the screens.
 """
 
+import shlex
 from collections.abc import Iterable, Iterator, Sequence
 from dataclasses import dataclass, field, replace
 
 from galluspa import states
 from galluspa.conditions import REGISTER_NUMBERS, writing
+from galluspa.escapes import printable
 from galluspa.finding import Search
 from galluspa.library import Machine, Sent
 from galluspa.limits import TimeIsUp
@@ -28,6 +30,7 @@ BYTES_SHOWN = 48
 HEAD, ROW_BYTES, ROWS = 12, 128, 768
 SIGNS = "Dots that differ are + where they are set, and - where they are not; # and . are alike."
 DOTS_WIDE, DOTS_HIGH = 36, 24
+FINDS_IT = "If COMMAND prints your emulator's state at a count, this finds the instruction:"
 
 
 @dataclass(frozen=True)
@@ -62,7 +65,8 @@ class Screens:
     defined: bytes = field(repr=False)
 
     def box(self) -> tuple[int, int, int, int]:
-        """The least and the greatest x, and the least and the greatest row from the top, of the dots that differ."""
+        """Returns the least and the greatest x, and the least and the greatest row from the top, of the dots that
+        differ."""
         pairs = ((row, self._different(row)) for row in range(ROWS))
         rows = [(row, bits) for row, bits in pairs if bits]
         every = 0
@@ -72,7 +76,7 @@ class Screens:
         return width - every.bit_length(), width - 1 - ((every & -every).bit_length() - 1), rows[0][0], rows[-1][0]
 
     def number(self) -> int:
-        """How many dots differ."""
+        """Returns how many dots differ."""
         return sum(self._different(row).bit_count() for row in range(ROWS))
 
     def _different(self, row: int) -> int:
@@ -81,7 +85,7 @@ class Screens:
         return int.from_bytes(claimed, "big") ^ int.from_bytes(defined, "big")
 
     def summary(self) -> str:
-        """How many dots differ, and where."""
+        """Returns how many dots differ, and where."""
         left, right, top, bottom = self.box()
         many = self.number()
         return (
@@ -90,8 +94,8 @@ class Screens:
         )
 
     def rows(self) -> Iterator[tuple[str, ...]]:
-        """The dots around those that differ, row by row from the top, claimed and the machine's: # and . for those that
-        are alike, + and - for those that differ, where the dot is set and where it is not."""
+        """Yields the dots around those that differ, row by row from the top, claimed and the machine's: # and . for
+        those that are alike, + and - for those that differ, where the dot is set and where it is not."""
         left, right, top, bottom = self.box()
         left = max(0, min(left - 4, 8 * ROW_BYTES - DOTS_WIDE))
         top = max(0, min(top - 2, ROWS - DOTS_HIGH))
@@ -111,9 +115,11 @@ def _dot(pbm: bytes, x: int, row: int) -> int:
 
 @dataclass(frozen=True)
 class FalseClaim:
-    """The first false checkpoint of a recording, against the machine at its count."""
+    """The first false checkpoint of a recording, against the machine at its count; `since` is that of the checkpoint before,
+    which is true."""
 
     number: int
+    since: int
     count: int
     part: str
     parts: list[Difference]
@@ -124,11 +130,21 @@ class FalseClaim:
     around: Around
 
     def memory(self, most: int = WORDS_SHOWN) -> list[Difference]:
-        """The words that differ, by rising address, so many at most."""
+        """Returns the words that differ, by rising address, so many at most."""
         return [Difference(word.name, f"{word.old:08X}", f"{word.new:08X}") for word in self.words[:most]]
 
+    @property
+    def stretch(self) -> str:
+        """Says in which stretch the emulator that made the recording went wrong."""
+        return f"Yours went wrong between {self.since:,} and {self.count:,}: checkpoint {self.number - 1} is true."
+
+    def bisect(self, name: str) -> str:
+        """Returns the command that finds the instruction, for a recording with a name."""
+        return f"galluspa bisect {shlex.quote(printable(name))} --from {self.since} --to {self.count} -- COMMAND {{count}}"
+
     def output(self) -> tuple[str, list[str], list[str]] | None:
-        """From which byte on the bytes sent differ, and the first of those from there, claimed and the machine's."""
+        """Returns from which byte on the bytes sent differ, and the first of those from there, claimed and the
+        machine's."""
         claimed, defined = self.sent
         if claimed == defined:
             return None
@@ -140,7 +156,8 @@ class FalseClaim:
 
 
 def explain_false(run: Run, program: Program, read: Recording, claim: tuple[int, str], steps: int) -> FalseClaim:
-    """What is false about the first false checkpoint, with so many instructions before it looked at one by one."""
+    """Returns what is false about the first false checkpoint, with so many instructions before it looked at one by
+    one."""
     number, part = claim
     checkpoint, before = read.checkpoints[number], read.checkpoints[number - 1]
     claimed, machine = run.library.claim(run.text, number), run.machine(before.count)
@@ -157,6 +174,7 @@ def explain_false(run: Run, program: Program, read: Recording, claim: tuple[int,
     sought = _Sought(focus, value_at(focus, near, sent_before), value_at(focus, claimed, out))
     return FalseClaim(
         number=number,
+        since=before.count,
         count=checkpoint.count,
         part=part,
         parts=list(_differences(claimed.seen(), machine.seen())),
@@ -169,7 +187,8 @@ def explain_false(run: Run, program: Program, read: Recording, claim: tuple[int,
 
 
 def _focus(part: str, words: list[WordChange]) -> Part:
-    """The part to look after: the one that the line names, or the first word that differs in the page that it names."""
+    """Returns the part to look after: the one that the line names, or the first word that differs in the page that it
+    names."""
     if not part.startswith("page "):
         return part
     place = int(part.removeprefix("page "))
@@ -177,14 +196,15 @@ def _focus(part: str, words: list[WordChange]) -> Part:
 
 
 def value_at(part: Part, machine: Machine, sent: Sent) -> Value:
-    """The value of a part in a machine, and what it has sent since the checkpoint before."""
+    """Returns the value of a part in a machine, and what it has sent since the checkpoint before."""
     if isinstance(part, int):
         return machine.words[part // 4]
     return sent if part == "out" else states.values(machine.seen())[part]
 
 
 def along(part: Part, value: Value, steps: Iterable[Step]) -> Iterator[tuple[Step, Value, bool]]:
-    """Instructions, each with the value of a part after it, and whether it wrote it; the value before them is given."""
+    """Yields instructions, each with the value of a part after it, and whether it wrote it; the value before them is
+    given."""
     for step in steps:
         if isinstance(part, int):
             value = next((word.new for word in step.changed if word.address == part), value)
@@ -251,7 +271,7 @@ def _claims(read: Recording, at: int, part: Part, value: Value) -> bool:
 
 
 def _setting(run: Run, machine: Machine, to: int, part: Part, value: Value) -> Step | None:
-    """The last instruction before a count that set a part to the value that it has there; None if none did."""
+    """Returns the last instruction before a count that set a part to the value that it has there; None if none did."""
     condition = writing(part, value)
     if condition and machine.count < to:
         hit = Search(run, [condition], machine.count, to).last()
@@ -260,8 +280,8 @@ def _setting(run: Run, machine: Machine, to: int, part: Part, value: Value) -> S
 
 
 def _changing(run: Run, machine: Machine, to: int, part: Part, value: Value) -> Step:
-    """An instruction after which a part has a value that it has at a later count, and before which it has another
-    one."""
+    """Returns an instruction after which a part has a value that it has at a later count, and before which it has
+    another one."""
     sent = Sent()
     while to - machine.count > 1:
         later = machine.copy()
@@ -274,8 +294,8 @@ def _changing(run: Run, machine: Machine, to: int, part: Part, value: Value) -> 
 
 
 def writers_summary(it: FalseClaim) -> str:
-    """What is shown below it: the last instructions before the checkpoint that wrote the part, or the one that set
-    it."""
+    """Returns what is shown below it: the last instructions before the checkpoint that wrote the part, or the one that
+    set it."""
     end = min(it.count, it.around.last)
     if it.around.writers:
         return f"The last instructions before count {end} that wrote {it.focus}:"
@@ -291,7 +311,7 @@ def writers_summary(it: FalseClaim) -> str:
 
 
 def counts_summary(it: FalseClaim) -> str:
-    """When the part had the claimed value."""
+    """Returns when the part had the claimed value."""
     before = [count for count in it.around.matching if count < it.count]
     after = [count for count in it.around.matching if count > it.count]
     nearest = [f"last at {count}, {it.count - count:,} before" for count in before[-1:]]
@@ -307,18 +327,19 @@ def counts_summary(it: FalseClaim) -> str:
 
 
 def writers_of(it: FalseClaim) -> list[Step]:
-    """The instructions that wrote the part."""
+    """Returns the instructions that wrote the part."""
     return it.around.writers or ([it.around.setting] if it.around.setting else [])
 
 
 def instructions_of(it: FalseClaim, symbols: Symbols = NONE) -> Iterator[str]:
-    """The lines of the instructions that wrote the part."""
+    """Yields the lines of the instructions that wrote the part."""
     for step in writers_of(it):
         yield from placed_lines(step, symbols)
 
 
 def callers_of(run: Run, it: FalseClaim, symbols: Symbols) -> str:
-    """The line that says where the last of them is, and who probably called that; nothing if none wrote the part."""
+    """Returns the line that says where the last of them is, and who probably called that; nothing if none wrote the
+    part."""
     if not writers_of(it):
         return ""
     last = writers_of(it)[-1].before
@@ -327,15 +348,15 @@ def callers_of(run: Run, it: FalseClaim, symbols: Symbols) -> str:
 
 
 def table(rows: Iterable[Sequence[str]]) -> Iterator[str]:
-    """Rows of a name, what is claimed, and what the machine has, in columns."""
+    """Returns rows of a name, what is claimed, and what the machine has, in columns."""
     kept = list(rows)
     name, claimed = (max(len(row[column]) for row in kept) for column in (0, 1))
     return (f"{row[0]:{name}}  {row[1]:{claimed}}  {row[2]}".rstrip() for row in kept)
 
 
-def plain(it: FalseClaim, most: int = WORDS_SHOWN, symbols: Symbols = NONE, callers: str = "") -> Iterator[str]:
-    """The lines of a text that explains a false claim, with so many words of memory at most; and what a symbol file
-    adds to them."""
+def plain(it: FalseClaim, name: str, most: int = WORDS_SHOWN, symbols: Symbols = NONE, callers: str = "") -> Iterator[str]:
+    """Yields the lines of a text that explains a false claim of a recording with a name, with so many words of memory
+    at most; and what a symbol file adds to them."""
     differences = [*it.parts, *it.memory(most)]
     if differences:
         rows = (named_row((one.name, one.claimed, one.defined), symbols) for one in differences)
@@ -350,3 +371,4 @@ def plain(it: FalseClaim, most: int = WORDS_SHOWN, symbols: Symbols = NONE, call
         yield from table([("", "claimed", "the machine"), *(("", *row) for row in it.screens.rows())])
     instructions = [*instructions_of(it, symbols), *([callers] if callers else [])]
     yield from ("", writers_summary(it), *instructions, "", counts_summary(it))
+    yield from ("", it.stretch, FINDS_IT, f"  {it.bisect(name)}")

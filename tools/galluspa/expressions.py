@@ -3,9 +3,10 @@
 from collections.abc import Callable, Sequence
 from dataclasses import dataclass
 
-from galluspa.tokens import Kind, Token, Wrong
+from galluspa.language import MOST, advice
+from galluspa.tokens import Kind, Token, wrong
 
-DEEPEST = 50
+DEEPEST = MOST["depth"]
 LARGEST = 1 << 64
 
 
@@ -33,7 +34,7 @@ class _Reader:
         self.depth = depth
 
     def mark(self, marks: str) -> Token | None:
-        """The next token, if it is one of these marks."""
+        """Returns the next token, if it is one of these marks."""
         token = self.tokens[self.at] if self.at < len(self.tokens) else None
         if token and token.kind is Kind.MARK and token.text in marks:
             self.at += 1
@@ -55,9 +56,9 @@ class _Reader:
         return value
 
     def atom(self) -> Value:
-        """A number, a name, the address here, or an expression with a sign or in parentheses."""
+        """Returns a number, a name, the address here, or an expression with a sign or in parentheses."""
         if self.at == len(self.tokens):
-            raise Wrong(self.column, "a number or a name is missing here")
+            raise wrong(self.column, "missing")
         token = self.tokens[self.at]
         self.at += 1
         if token.kind is Kind.NUMBER:
@@ -68,26 +69,26 @@ class _Reader:
             return Value(self.here, True)
         if token.kind is Kind.MARK and token.text in "-+(":
             return self.nested(token)
-        raise Wrong(token.column, f"{token.text} is neither a number nor a name{self.advice(token)}")
+        raise wrong(token.column, "value", text=token.text, advice=self.advice(token))
 
     def advice(self, token: Token) -> str:
-        """What to write in place of a token that begins no number, if it begins one in another assembler."""
+        """Returns what to write in place of a token that begins no number, if it begins one in another assembler."""
         after = self.tokens[self.at].text if self.at < len(self.tokens) else ""
         if token.is_mark("%") and after and set(after) <= {"0", "1"}:
-            return f": there are no binary numbers; write {int(after, 2)}"
+            return advice("binary", number=int(after, 2))
         if token.kind is Kind.STRING and len(token.content) == 1:
-            return f": write '{token.text[1:-1]}'"
+            return advice("character", text=token.text[1:-1])
         if token.is_mark("="):
-            return f": write {after or 'a name'} without it, as an operand of MOV"
+            return advice("equals", text=after or "a name")
         return ""
 
     def nested(self, token: Token) -> Value:
-        """What follows a sign or an opening parenthesis."""
+        """Returns what follows a sign or an opening parenthesis."""
         self.depth = deeper(self.depth, token)
         if token.is_mark("("):
             value = self.sum()
             if not self.mark(")"):
-                raise Wrong(token.column, "the parenthesis has no end")
+                raise wrong(token.column, "parenthesis")
         else:
             value = self.atom()
             value = Value(-value.number) if token.is_mark("-") else value
@@ -98,17 +99,17 @@ class _Reader:
 def deeper(depth: int, token: Token) -> int:
     """One level deeper than a depth, for what is behind a token."""
     if depth >= DEEPEST:
-        raise Wrong(token.column, f"signs, parentheses and constants are nested deeper than {DEEPEST}")
+        raise wrong(token.column, "deep", most=DEEPEST)
     return depth + 1
 
 
 def evaluate(tokens: Sequence[Token], column: int, names: Names, here: int, depth: int = 0) -> Value:
-    """The value of an expression: `column` is that of its end, and `here` the byte address that $ stands for."""
+    """Returns the value of an expression: `column` is that of its end, and `here` the byte address that $ stands for."""
     reader = _Reader(tokens, column, names, here, depth)
     value = reader.sum()
     if reader.at < len(tokens):
         extra = tokens[reader.at]
-        raise Wrong(extra.column, f"{extra.text} does not continue the expression")
+        raise wrong(extra.column, "extra", text=extra.text)
     return value
 
 
@@ -122,11 +123,11 @@ def _product(left: Value, right: Value, mark: Token) -> Value:
     if mark.text == "*":
         return Value(left.number * right.number)
     if not right.number:
-        raise Wrong(mark.column, "a division by 0")
+        raise wrong(mark.column, "zero")
     return Value(left.number // right.number if mark.text == "/" else left.number % right.number)
 
 
 def _bounded(value: Value, mark: Token) -> Value:
     if abs(value.number) >= LARGEST:
-        raise Wrong(mark.column, "the result is 2^64 or more")
+        raise wrong(mark.column, "large")
     return value

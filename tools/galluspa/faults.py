@@ -43,7 +43,7 @@ class Fault:
     rule: str
 
     def plain(self) -> Iterator[str]:
-        """The lines that say it."""
+        """Yields the lines that say it."""
         yield f"{self.field}, at byte {self.at}"
         if self.content:
             shown = self.content[:32].hex(" ") + (" .." if len(self.content) > 32 else "")
@@ -52,7 +52,7 @@ class Fault:
 
     @property
     def value(self) -> int:
-        """The number that the bytes say."""
+        """Returns the number that the bytes say."""
         return int.from_bytes(self.content, "little")
 
 
@@ -68,7 +68,7 @@ class Field:
 
 
 def explain_fault(text: bytes, number: int, at: int) -> Fault:
-    """What the first fault of a text is about, given its number and its byte."""
+    """Returns what the first fault of a text is about, given its number and its byte."""
     explain = {1: _short, 2: _magic, 3: _version, 4: _limit, 5: _event, 6: _checkpoint, 7: _page, 8: _trailing}
     return explain[number](text, at)
 
@@ -78,7 +78,7 @@ def _fault(text: bytes, field: Field, where: str = "") -> Fault:
 
 
 def _first_broken(text: bytes, fields: Sequence[Field]) -> Field:
-    """The first field whose number breaks its rule; the first of all if none does."""
+    """Returns the first field whose number breaks its rule; the first of all if none does."""
     broken = (it for it in fields if not it.keeps(_number(text, it.at, it.size)))
     return next(broken, fields[0])
 
@@ -150,7 +150,7 @@ class _Claim:
 
 
 def _claims(text: bytes) -> Iterator[_Claim]:
-    """The checkpoints of a text, as far as it has their first bytes."""
+    """Yields the checkpoints of a text, as far as it has their first bytes."""
     version, pages, events, number, _ = struct.unpack_from("<5I", text, 4)
     start, before, sent = HEADER_BYTES + PAGE_BYTES * pages + EVENT_BYTES * events, -1, 0
     for at in range(number):
@@ -161,7 +161,7 @@ def _claims(text: bytes) -> Iterator[_Claim]:
 
 
 def _changed_bytes(text: bytes, start: int) -> int:
-    """How many bytes a checkpoint of version 2 has."""
+    """Returns how many bytes a checkpoint of version 2 has."""
     return CHANGES_AT + CHANGE_BYTES * _number(text, start + OFFSETS["change_count"])
 
 
@@ -171,7 +171,7 @@ def _checkpoint(text: bytes, at: int) -> Fault:
 
 
 def _fields(text: bytes, claim: _Claim) -> Iterator[Field]:
-    """The fields of a checkpoint that have a range, in their order."""
+    """Yields the fields of a checkpoint that have a range, in their order."""
     is_first = claim.number == 0
 
     def field(name: str, member: str, size: int, rule: str, keeps: Callable[[int], bool]) -> Field:
@@ -260,7 +260,7 @@ def _short(text: bytes, at: int) -> Fault:
 
 
 def _whole(text: bytes) -> Iterator[_Claim]:
-    """The checkpoints that the text has in full."""
+    """Yields the checkpoints that the text has in full."""
     for claim in _claims(text):
         if claim.end > len(text):
             return
@@ -268,7 +268,7 @@ def _whole(text: bytes) -> Iterator[_Claim]:
 
 
 def _end(text: bytes) -> int:
-    """Where a text ends by what its checkpoints say."""
+    """Returns where a text ends by what its checkpoints say."""
     last = list(_claims(text))[-1]
     return last.end + last.sent + _number(text, last.start + OFFSETS["output_length"])
 

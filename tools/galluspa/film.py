@@ -36,7 +36,7 @@ class Shot:
 
 
 def shots_of_claims(read: Recording, program: Program) -> Iterator[Shot]:
-    """The screens that the checkpoints claim, the initial state's among them."""
+    """Yields the screens that the checkpoints claim, the initial state's among them."""
     before, pbm = b"", b""
     for claim in read.checkpoints:
         memory = read.memory(claim, FIRST_PAGE, PLACES * PAGE_BYTES)
@@ -46,7 +46,7 @@ def shots_of_claims(read: Recording, program: Program) -> Iterator[Shot]:
 
 
 def shots_of_run(machine: Machine, program: Program, last: int, every: int) -> Iterator[Shot]:
-    """The screens of a machine at its count and then every so many, and at the last count."""
+    """Yields the screens of a machine at its count and then every so many, and at the last count."""
     before, pbm = b"", b""
     for count in chain(range(machine.count, last, every), [last]):
         machine.advance(count)
@@ -57,7 +57,7 @@ def shots_of_run(machine: Machine, program: Program, last: int, every: int) -> I
 
 
 def _display(memory: bytes) -> bytes:
-    """The display in the pages from its first one on."""
+    """Returns the display in the pages from its first one on."""
     return memory[DISPLAY_START - FIRST_PAGE : DISPLAY_END - FIRST_PAGE]
 
 
@@ -83,7 +83,7 @@ class Film:
 
     @property
     def is_full(self) -> bool:
-        """Whether it takes no more frames."""
+        """Returns whether it takes no more frames."""
         return self._length >= BYTES
 
     def add(self, pbm: bytes) -> None:
@@ -97,7 +97,7 @@ class Film:
         self._pending, self._screen = _Frame(top, screen[ROW * top : ROW * end], self.ms), screen
 
     def png(self) -> bytes:
-        """The film as it is now; it takes no more frames after that."""
+        """Returns the film as it is now; it takes no more frames after that."""
         self._finish()
         return _png([_chunk(b"acTL", struct.pack(">II", self.frames, 0)), *self._chunks])
 
@@ -114,7 +114,7 @@ class Film:
         self.frames += 1
 
     def _numbered(self) -> bytes:
-        """The number of the next chunk of those that have one."""
+        """Returns the number of the next chunk of those that have one."""
         self._number += 1
         return struct.pack(">I", self._number - 1)
 
@@ -124,24 +124,24 @@ class Film:
 
 
 def picture(pbm: bytes) -> bytes:
-    """A screen, as the program draws it, as a PNG that does not move."""
+    """Returns a screen, as the program draws it, as a PNG that does not move."""
     return _png([_chunk(b"IDAT", _compressed(pbm[HEAD:].translate(INVERTED)))])
 
 
 def _png(chunks: Sequence[bytes]) -> bytes:
-    """A PNG of the display's size with these chunks."""
+    """Returns a PNG of the display's size with these chunks."""
     head = struct.pack(">IIBBBBB", WIDTH, HEIGHT, 1, 0, 0, 0, 0)
     return b"\x89PNG\r\n\x1a\n" + _chunk(b"IHDR", head) + b"".join(chunks) + _chunk(b"IEND", b"")
 
 
 def _compressed(rows: bytes) -> bytes:
-    """Lines as a PNG has them: each after the number of its filter, which is 0, and all of them compressed."""
+    """Returns lines as a PNG has them: each after the number of its filter, which is 0, and all of them compressed."""
     return zlib.compress(b"".join(b"\0" + rows[at : at + ROW] for at in range(0, len(rows), ROW)), 9)
 
 
 def _changed_rows(before: bytes, after: bytes) -> tuple[int, int]:
-    """The first line in which two screens differ, and the line after the last; all of them if there was none before,
-    and one if they are alike."""
+    """Returns the first line in which two screens differ, and the line after the last; all of them if there was none
+    before, and one if they are alike."""
     if not before:
         return 0, HEIGHT
     rows = [at for at in range(HEIGHT) if before[ROW * at : ROW * (at + 1)] != after[ROW * at : ROW * (at + 1)]]

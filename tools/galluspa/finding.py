@@ -1,7 +1,8 @@
 """Finds when a condition holds in the run of a recording: at which count first, at which last, and at all of them.
 
 A search goes through the segments between checkpoints that are known to be true, several of them at a time, and through
-each in slices of a part of a second.
+each in slices of a part of a second. All hits are had one by one from the library's search; where they are dense, by the
+thousand from a scan.
 """
 
 import ctypes
@@ -9,16 +10,18 @@ import threading
 import time
 from collections.abc import Callable, Generator, Iterable, Iterator, Sequence
 from dataclasses import dataclass, replace
-from functools import partial
-from itertools import pairwise
+from functools import cached_property, partial
+from itertools import chain, islice, pairwise
 from typing import TypeVar
 
-from galluspa import children
+from galluspa import children, scanning
+from galluspa.batches import RawStep
 from galluspa.command import progress
 from galluspa.conditions import SENDS, SENDS_BYTE, STOPS, TAKES, Condition, Raw
 from galluspa.library import FIRST, LAST, Inputs, Machine, RawCondition, Sent, steps_after
 from galluspa.limits import Limit, TimeIsUp
-from galluspa.tracing import Run, Step
+from galluspa.scanning import FIRST_SCANNED, MOST_SCANNED, Sought, holds
+from galluspa.tracing import Run, Step, step_of
 
 # A slice of a search has at most so many steps, of which the library does some tens of millions a second.
 FIRST_STEPS, MOST_STEPS = 1 << 19, 1 << 22
@@ -28,6 +31,9 @@ BLOCK_STEPS = 1 << 24
 LAST_STEPS, GROWTH = 1 << 22, 4
 # So many hits are kept of each segment that is searched beside others; if more are wanted, it is one at a time.
 KEPT = 10_000
+# Hits are dense if two come within so many steps, which a scan does in less time than one hit of the library's search takes.
+DENSE_STEPS = 1 << 12
+NO_COUNT = -(1 << 64)
 T = TypeVar("T")
 
 
@@ -35,17 +41,22 @@ class _Abandoned(Exception):
     """Nobody waits for this search any more."""
 
 
-@dataclass(frozen=True)
+@dataclass
 class Hit:
-    """A count at which a condition holds: its instruction, and the condition."""
+    """A count at which a condition holds: its instruction, in numbers, and the condition."""
 
-    step: Step
+    raw: RawStep
     condition: Condition
 
     @property
     def count(self) -> int:
         """The count."""
-        return self.step.before.count
+        return self.raw.at
+
+    @cached_property
+    def step(self) -> Step:
+        """The instruction, with the states before and after it."""
+        return step_of(self.raw)
 
 
 @dataclass(frozen=True)
@@ -78,13 +89,24 @@ def array_of(raws: Sequence[Raw]) -> ctypes.Array[RawCondition]:
 class Search:
     """A search for conditions, of which one has to hold, in a run from a count up to another."""
 
-    def __init__(self, run: Run, conditions: Sequence[Condition], first: int, to: int, jobs: int = 1) -> None:
-        """A search by so many threads."""
+    def __init__(
+        self,
+        run: Run,
+        conditions: Sequence[Condition],
+        first: int,
+        to: int,
+        jobs: int = 1,
+        tell: Callable[[str], None] = progress,
+    ) -> None:
+        """A search by so many threads, which tells how far it comes."""
         self._run = run
+        self._tell_user = tell
         self._conditions = conditions
         self._owners = [condition for condition in conditions for _ in condition.raws]
         self._raws = [raw for condition in conditions for raw in condition.raws]
         self._array = array_of(self._raws)
+        self._sought = Sought(self._raws, self._array)
+        self._are_the_librarys = all(it.is_so is None for it in conditions)
         self._is_seen_outside = {it.kind for it in self._raws} <= {SENDS, SENDS_BYTE, STOPS, TAKES}
         starts = [run.counts[it] for it in run.true if first < run.counts[it] < to]
         self._segments = [_Segment(at, *ends) for at, ends in enumerate(pairwise([first, *starts, to]))]
@@ -134,14 +156,14 @@ class Search:
             self._jobs = 1
 
         def hits_of(segment: _Segment, run: Run) -> Iterable[Hit]:
-            hits = self._hits_of(segment, run, most)
+            hits = islice(self._hits_of(segment, run), most)
             if self._jobs > 1:
                 return _Kept(hits)
             return hits
 
         found = self._each(hits_of, self._segments)
         try:
-            yield from (hit for _, hit in zip(range(most), (hit for hits in found for hit in hits)))
+            yield from islice(chain.from_iterable(found), most)
         finally:
             self._end(found)
 
@@ -149,7 +171,7 @@ class Search:
         """Ends what still searches, and takes the line of progress away."""
         self._is_over.set()
         found.close()
-        progress("")
+        self._tell_user("")
 
     def _each(self, function: Callable[[_Segment, Run], T], segments: Iterable[_Segment]) -> Generator[T, None, None]:
         """What a function of a segment and a run gives for each segment, in their order."""
@@ -161,25 +183,47 @@ class Search:
         run = self._run.with_library(library)
         yield from children.in_parallel(self._jobs, lambda it: function(it, run), segments)
 
-    def _hits_of(self, segment: _Segment, run: Run, most: int) -> Iterator[Hit]:
-        """The first hits of a segment, so many at most."""
-        number = 0
-
-        def tell(count: int) -> None:
-            self._tell(self._reached, segment, count)
-
+    def _hits_of(self, segment: _Segment, run: Run) -> Iterator[Hit]:
+        """The hits of a segment."""
+        tell, previous = partial(self._tell, self._reached, segment), NO_COUNT
         for start, end in self._slices(run, run.machine(segment.first), segment.end, tell):
-            while number < most and start.count < end and (found := self._found(run, start, end, FIRST)):
-                count, condition = found
-                run.advance(start, count)
-                # It was searched only so far.
-                tell(count)
-                yield Hit(next(run.steps(start, count + 1)), condition)
-                number += 1
-            if number == most:
-                return
-            run.advance(start, end)
+            is_dense, scanned = False, FIRST_SCANNED
+            while start.count < end:
+                if is_dense and not start.state.stop:
+                    hits = self._scanned(run, start, min(start.count + scanned, end))
+                    scanned = min(2 * scanned, MOST_SCANNED)
+                else:
+                    hits, scanned = self._searched(run, start, end), FIRST_SCANNED
+                yield from hits
+                tell(start.count)
+                counts = [previous, *(hit.count for hit in hits[-2:])]
+                is_dense = start.count - counts[-2:][0] <= DENSE_STEPS
+                previous = counts[-1]
         tell(segment.end)
+
+    def _searched(self, run: Run, machine: Machine, end: int) -> list[Hit]:
+        """The first hit from a machine's count up to another, to which the machine goes on; none if there is none, and
+        then it goes on to the end."""
+        found = self._found(run, machine, end, FIRST)
+        if not found:
+            run.advance(machine, end)
+            return []
+        count, condition = found
+        run.advance(machine, count)
+        return [Hit(next(run.raw_steps(machine, count + 1)), condition)]
+
+    def _scanned(self, run: Run, machine: Machine, end: int) -> list[Hit]:
+        """All hits from a machine's count up to another, to which the machine goes on."""
+        matches = scanning.scan(run.library, machine, run.inputs, end, self._sought)
+        if self._are_the_librarys:
+            return [Hit(raw, self._owners[index]) for raw, index in matches]
+        return [Hit(raw, condition) for raw, _ in matches if (condition := self._condition_of(raw))]
+
+    def _condition_of(self, raw: RawStep) -> Condition | None:
+        """The first condition that holds at an instruction; None if none does."""
+        step = step_of(raw)
+        held = (it for it in self._conditions if any(holds(each, raw) for each in it.raws))
+        return next((it for it in held if it.is_so is None or it.is_so(step)), None)
 
     def _last_of(self, segment: _Segment, run: Run) -> Hit | None:
         """The last hit of a segment. What is near its end is searched first."""
@@ -208,7 +252,7 @@ class Search:
             return None
         (count, condition), near = found
         run.advance(near, count)
-        return Hit(next(run.steps(near, count + 1)), condition)
+        return Hit(next(run.raw_steps(near, count + 1)), condition)
 
     def _slices(self, run: Run, machine: Machine, to: int, tell: Callable[[int], None]) -> Iterator[tuple[Machine, int]]:
         """The slices of a run up to a count in which something may be found: a machine, which has to be advanced
@@ -238,7 +282,7 @@ class Search:
         counts[segment.number] = count
         ends = zip(self._segments, self._reached, self._left, strict=True)
         done = sum(reached - it.first + it.end - left for it, reached, left in ends) + sum(self._more)
-        progress(f"searched {done:,} of {self.end - self.first_count:,}")
+        self._tell_user(f"searched {done:,} of {self.end - self.first_count:,}")
 
     def _tell_more(self, segment: _Segment, first: int, count: int) -> None:
         """The same of a piece of a segment that is searched backward, from its first count up to another."""
@@ -258,7 +302,7 @@ class Search:
 
     def _found(self, run: Run, machine: Machine, end: int, wanted: int) -> tuple[int, Condition] | None:
         """The first or the last count of a slice at which a condition holds, and the condition."""
-        if all(it.is_so is None for it in self._conditions):
+        if self._are_the_librarys:
             found = run.library.search(machine, run.inputs, end, self._array, wanted)
             return (found[0], self._owners[found[1]]) if found else None
         while machine.count < end and (found := run.library.search(machine, run.inputs, end, self._array, wanted)):

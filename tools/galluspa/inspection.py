@@ -30,8 +30,8 @@ BITS = ((0x01, 0x02, 0x04, 0x40), (0x08, 0x10, 0x20, 0x80))
 
 
 def named(value: int, symbols: Symbols) -> str:
-    """The names of what a register may hold: an address in data, the first address of code, or a constant. Nothing if
-    the value is small, or within code."""
+    """Returns the names of what a register may hold: an address in data, the first address of code, or a constant.
+    Nothing if the value is small, or within code."""
     if value < LEAST_NAMED:
         return ""
     is_address = symbols.is_data(value) or symbols.start_of(value) == value
@@ -39,12 +39,12 @@ def named(value: int, symbols: Symbols) -> str:
 
 
 def held_name(register: str, value: int, symbols: Symbols) -> str:
-    """The names of what a register holds; R15 may hold any address of code, since it has the way back."""
+    """Returns the names of what a register holds; R15 may hold any address of code, since it has the way back."""
     return symbols.text(value) if register == "R15" else named(value, symbols)
 
 
 def status_line(state: Checkpoint) -> str:
-    """The count, and whether the machine runs."""
+    """Returns the count, and whether the machine runs."""
     return f"count {state.count:,}, " + (f"stopped ({STOPS[state.stop]})" if state.stop else "running")
 
 
@@ -60,15 +60,15 @@ def register_lines(state: Checkpoint, symbols: Symbols) -> Iterator[str]:
 
 
 def device_lines(state: Checkpoint) -> Iterator[str]:
-    """The devices."""
+    """Yields the devices."""
     texts = {part.name: part.text for part in states.others(state, None, 2)}
     for names in DEVICES:
         yield "  ".join(f"{name} {texts[name]}" for name in names)
 
 
 def memory_lines(machine: Machine, address: int, number: int, symbols: Symbols) -> Iterator[str]:
-    """Words of memory, from the one that an address is in: each in hexadecimal, as a number with a sign, its bytes from
-    the lowest on, and what characters they are."""
+    """Yields words of memory, from the one that an address is in: each in hexadecimal, as a number with a sign, its
+    bytes from the lowest on, and what characters they are."""
     for at in range(address // 4, min(address // 4 + number, WORDS)):
         word = machine.words[at]
         content = struct.pack("<I", word)
@@ -78,12 +78,12 @@ def memory_lines(machine: Machine, address: int, number: int, symbols: Symbols) 
 
 
 def callers_in(machine: Machine, symbols: Symbols) -> Callers:
-    """What guesses who called, in a machine's memory."""
+    """Returns what guesses who called, in a machine's memory."""
     return Callers(memoryview(machine.memory()).cast("I"), symbols)
 
 
 def stack_lines(machine: Machine, number: int, symbols: Symbols, callers: Callers) -> Iterator[str]:
-    """Words of memory from R14 on, with what those probably are that follow a call: the ways back."""
+    """Yields words of memory from R14 on, with what those probably are that follow a call: the ways back."""
     pointer = machine.state.r[14]
     if pointer >= MEMORY_BYTES:
         yield f"R14 is {pointer:08X}, beyond the memory"
@@ -94,12 +94,12 @@ def stack_lines(machine: Machine, number: int, symbols: Symbols, callers: Caller
 
 
 def callers_line(machine: Machine, callers: Callers) -> str:
-    """Where the machine is, who probably called that, who called that one, and so on."""
+    """Returns where the machine is, who probably called that, who called that one, and so on."""
     return f"probably: {' < '.join(callers.of(machine.seen()))}"
 
 
 def instruction_lines(machine: Machine, first: int, number: int, symbols: Symbols) -> Iterator[str]:
-    """Instructions from a word on, with an arrow at the one that the machine does next."""
+    """Yields instructions from a word on, with an arrow at the one that the machine does next."""
     for at in range(first, min(first + number, WORDS)):
         word, mark = machine.words[at], "=>" if at == machine.state.pc and not machine.state.stop else "  "
         decoded = instruction(word, at)
@@ -108,18 +108,18 @@ def instruction_lines(machine: Machine, first: int, number: int, symbols: Symbol
 
 
 def screen_of(machine: Machine, program: Program) -> bytes:
-    """The machine's screen as the program draws it: a binary PBM."""
+    """Returns the machine's screen as the program draws it: a binary PBM."""
     return program.screen(of_display(machine.seen(), machine.memory()[FIRST_PAGE:]), 0).output
 
 
 def picture_of(pbm: bytes, name: str) -> bytes:
-    """A screen as a file of this name has it: a PBM, or else a PNG."""
+    """Returns a screen as a file of this name has it: a PBM, or else a PNG."""
     return pbm if name.lower().endswith(".pbm") else picture(pbm)
 
 
 def screen_lines(pbm: bytes) -> Iterator[str]:
-    """A screen as text, with a dot of a character of Braille for each eight by eight dots of which one is set; lines at
-    its end that are empty are left out."""
+    """Yields a screen as text, with a dot of a character of Braille for each eight by eight dots of which one is set;
+    lines at its end that are empty are left out."""
     rows = pbm[len(b"P4\n1024 768\n") :]
     coarse = [
         [any(rows[128 * (COARSE * y + part) + x] for part in range(COARSE)) for x in range(128)] for y in range(768 // COARSE)
@@ -137,8 +137,8 @@ def screen_lines(pbm: bytes) -> Iterator[str]:
 
 
 def as_object(machine: Machine, symbols: Symbols) -> dict[str, object]:
-    """A machine without its memory, for machines: the parts of its state as numbers, its next instruction, and names
-    beside them if there are any."""
+    """Returns a machine without its memory, for machines: the parts of its state as numbers, its next instruction, and
+    names beside them if there are any."""
     state = machine.seen()
     word = machine.words[state.pc] if state.pc < WORDS else None
     parts: dict[str, object] = {
@@ -152,7 +152,7 @@ def as_object(machine: Machine, symbols: Symbols) -> dict[str, object]:
 
 
 def _names(state: Checkpoint, symbols: Symbols) -> Mapping[str, str]:
-    """The names of the addresses in registers and of the program counter, and the line of the source."""
+    """Returns the names of the addresses in registers and of the program counter, and the line of the source."""
     pairs = zip(states.REGISTERS, state.registers, strict=True)
     names = {name: held_name(name, value, symbols) for name, value in pairs}
     names |= {"PC": symbols.text(4 * state.pc), "source": symbols.source(4 * state.pc)}
@@ -160,7 +160,7 @@ def _names(state: Checkpoint, symbols: Symbols) -> Mapping[str, str]:
 
 
 def memory_objects(machine: Machine, address: int, number: int, symbols: Symbols) -> Sequence[dict[str, object]]:
-    """Words of memory for machines, each with its address, and with its name beside it if it has one."""
+    """Returns words of memory for machines, each with its address, and with its name beside it if it has one."""
     found = []
     for at in range(address // 4, min(address // 4 + number, WORDS)):
         name = symbols.text(4 * at)

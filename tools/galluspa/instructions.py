@@ -7,13 +7,17 @@ for bytes: here they are LDB and STB. Numbers are decimal, or hexadecimal with a
 
 from collections.abc import Sequence
 from dataclasses import dataclass
+from functools import lru_cache
 
-OPERATIONS = "MOV LSL ASR ROR AND ANN IOR XOR ADD SUB MUL DIV FAD FSB FML FDV".split()
-SIGNS = " ← → rot & & or xor + - * div".split(" ")
-CONDITIONS = ("MI", "EQ", "CS", "VS", "LS", "LT", "LE", "", "PL", "NE", "CC", "VC", "HI", "GE", "GT", "NO")
-FLAGS = ("N", "Z", "C", "V", "C or Z", "N xor V", "(N xor V) or Z")
+from galluspa.language import LANGUAGE
+
+OPERATIONS: list[str] = LANGUAGE["operations"]
+SIGNS: list[str] = LANGUAGE["signs"]
+CONDITIONS = tuple[str, ...](LANGUAGE["conditions"])
+FLAGS = tuple[str, ...](LANGUAGE["flags"])
 ALWAYS, NEVER = 7, 15
-WITH_H = (10, 11)
+# The operations that write H, and those that may read the carry.
+WITH_H, WITH_CARRY = (10, 11), (8, 9)
 
 
 @dataclass(frozen=True)
@@ -25,14 +29,20 @@ class Instruction:
 
 
 def instruction(word: int, at: int) -> Instruction:
-    """The instruction of a word that lies at a place, counted in words."""
+    """Returns the instruction of a word that lies at a place, counted in words."""
     if word >> 31 == 0:
         return _register(word)
     return _memory(word) if word >> 30 == 2 else _branch(word, at)
 
 
+@lru_cache(1 << 16)
+def mnemonic(word: int) -> str:
+    """Returns the mnemonic of a word with its operands, which is the same wherever it lies."""
+    return instruction(word, 0).mnemonic
+
+
 def written(word: int) -> frozenset[str]:
-    """The registers and flags that an instruction writes unless it stops; those of a branch it writes if it is
+    """Returns the registers and flags that an instruction writes unless it stops; those of a branch it writes if it is
     taken."""
     if is_branch(word):
         return frozenset(("R15", "flags") if _bit(word, 28) else ())
@@ -42,31 +52,45 @@ def written(word: int) -> frozenset[str]:
     return frozenset((f"R{word >> 24 & 15}", "flags", *(["H"] if has_h else [])))
 
 
+def operands_of(word: int) -> list[str]:
+    """Returns the registers and flags that an instruction reads; a store also reads what it stores."""
+    a, b, c = (f"R{word >> place & 15}" for place in (24, 20, 0))
+    if is_branch(word):
+        return ["flags"] * (word >> 24 & 7 != ALWAYS) + [c] * (not _bit(word, 29) and word >> 24 & 15 != NEVER)
+    if word >> 31:
+        return list(dict.fromkeys([b, *([a] if is_store(word) else [])]))
+    op, is_by_register, u = word >> 16 & 15, not _bit(word, 30), _bit(word, 29)
+    if op == 0 and u:
+        return [["H"], ["flags"]][_bit(word, 28)] if is_by_register else []
+    read = [b] * (op != 0) + [c] * is_by_register + ["flags"] * (u and op in WITH_CARRY)
+    return list(dict.fromkeys(read))
+
+
 def is_branch(word: int) -> bool:
-    """Whether a word is a branch."""
+    """Returns whether a word is a branch."""
     return word >> 30 == 3
 
 
 def is_store(word: int) -> bool:
-    """Whether a word is a store."""
+    """Returns whether a word is a store."""
     return word >> 29 == 5
 
 
 def address(word: int, registers: Sequence[int]) -> int | None:
-    """The byte address that a load or a store goes to; None of any other word."""
+    """Returns the byte address that a load or a store goes to; None of any other word."""
     if word >> 30 != 2:
         return None
     return (registers[word >> 20 & 15] + _signed(word, 20)) & 0xFFFFFF
 
 
 def branches_to(word: int, at: int) -> int | None:
-    """The number of the word that a branch by an offset leads to, if it lies at a place; None of any other word."""
+    """Returns the number of the word that a branch by an offset leads to, if it lies at a place; None of any other word."""
     is_by_offset = is_branch(word) and _bit(word, 29) and word >> 24 & 15 != NEVER
     return (at + 1 + _signed(word, 22)) % (1 << 22) if is_by_offset else None
 
 
 def moved(word: int, before: int) -> int | None:
-    """The number that a move has as its operand, or that this word and the one before it put together: a move of the
+    """Returns the number that a move has as its operand, or that this word and the one before it put together: a move of the
     upper half, and IOR of the same register. None of any other word."""
     if word >> 16 & 0xF00F == 0x4000 or word >> 16 & 0xF00F == 0x5000:
         return (word & 0xFFFF) - (0x10000 if _bit(word, 28) else 0)

@@ -22,6 +22,9 @@ WORDS = PLACES * WORDS_IN_PAGE
 # has more than so many steps: what follows a long wait would else have a slice of many seconds.
 SLICE_SECONDS = 0.1
 FIRST_STEPS, MOST_STEPS = 1 << 20, 1 << 24
+# A slice takes a millisecond or two with so many steps. It has no fewer on a machine that is busy with other things: then
+# it takes long, however few they are.
+LEAST_STEPS = 1 << 16
 WHOLE_RUN = 1 << 40
 SENT_AT_ONCE = 1 << 20
 # A verdict line has fewer bytes.
@@ -103,14 +106,14 @@ class Profile:
     departures: "array[int]"
 
     def visited(self) -> Iterator[int]:
-        """The numbers of the words whose instruction was done, in rising order."""
+        """Yields the numbers of the words whose instruction was done, in rising order."""
         content, none = self.visits.tobytes(), bytes(8 * WORDS_IN_PAGE)
         for first in range(0, WORDS, WORDS_IN_PAGE):
             if content[8 * first : 8 * (first + WORDS_IN_PAGE)] != none:
                 yield from (at for at in range(first, first + WORDS_IN_PAGE) if self.visits[at])
 
     def __add__(self, more: "Profile") -> "Profile":
-        """The profile of a run and of the one that follows it."""
+        """Returns the profile of a run and of the one that follows it."""
         both = Profile(self.visits[:], self.departures[:])
         for at in more.visited():
             both.visits[at] += more.visits[at]
@@ -119,7 +122,7 @@ class Profile:
 
     @property
     def instructions(self) -> int:
-        """How many instructions were done in memory; one that stopped the machine is among them."""
+        """Returns how many instructions were done in memory; one that stopped the machine is among them."""
         return sum(self.visits[at] for at in self.visited())
 
 
@@ -145,19 +148,19 @@ class Machine:
 
     @property
     def count(self) -> int:
-        """How many instructions were done."""
+        """Returns how many instructions were done."""
         return self.state.count
 
     def copy(self) -> "Machine":
-        """Another machine in the same state."""
+        """Returns another machine in the same state."""
         return Machine(RawState.from_buffer_copy(self.state), Words.from_buffer_copy(self.words))
 
     def memory(self) -> bytes:
-        """The bytes of the memory; wherever the library is built, a word's lowest byte comes first."""
+        """Returns the bytes of the memory; wherever the library is built, a word's lowest byte comes first."""
         return bytes(self.words)
 
     def seen(self, sent: bytes = b"") -> Checkpoint:
-        """The state as a checkpoint claims it, without its memory."""
+        """Returns the state as a checkpoint claims it, without its memory."""
         it = self.state
         return Checkpoint(
             count=it.count,
@@ -178,11 +181,11 @@ class Inputs:
         self._raw = (RawInput * len(events))(*(RawInput(event.count, event.kind, event.value) for event in events))
 
     def of(self, first: int, end: int) -> Sequence[Event]:
-        """The inputs of the counts from one up to another."""
+        """Returns the inputs of the counts from one up to another."""
         return self._events[bisect_left(self._counts, first) : bisect_left(self._counts, end)]
 
     def raw(self, first: int, end: int) -> ctypes.Array:
-        """The same, as the library takes them."""
+        """Returns the same, as the library takes them."""
         start = bisect_left(self._counts, first)
         number = bisect_left(self._counts, end) - start
         if not number:
@@ -209,7 +212,7 @@ class Library:
 
     @staticmethod
     def find(given: str | None, limit: Limit | None = None) -> "Library":
-        """The library that was given, or else the first that is found where add_library_option says."""
+        """Returns the library that was given, or else the first that is found where add_library_option says."""
         if named := given or os.environ.get(VARIABLE):
             if not Path(named).is_file():
                 raise Refused(f"no library at {named}")
@@ -236,7 +239,7 @@ class Library:
         return Library(path, calls, limit)
 
     def claim(self, text: bytes, at: int) -> Machine:
-        """The machine that a checkpoint of a recording claims; whether the claim is true is not tested."""
+        """Returns the machine that a checkpoint of a recording claims; whether the claim is true is not tested."""
         machine = Machine(RawState(), Words())
         code = self.calls.galluspa_claim(
             text,
@@ -251,7 +254,8 @@ class Library:
         return machine
 
     def check(self, text: bytes) -> tuple[str, int]:
-        """The verdict line of a recording, and the program's exit status for it. One call takes the whole check."""
+        """Returns the verdict line of a recording, and the program's exit status for it. One call takes the whole
+        check."""
         line, status = ctypes.create_string_buffer(LINE_BYTES), ctypes.c_uint8()
         self.calls.galluspa_check.restype = ctypes.c_size_t
         length = self.calls.galluspa_check(
@@ -262,7 +266,7 @@ class Library:
         return line.raw[:length].decode("ascii").rstrip("\n"), status.value
 
     def record(self, session: bytes) -> bytes:
-        """The recording of a session, which has to be a lawful one."""
+        """Returns the recording of a session, which has to be a lawful one."""
         status, room = ctypes.c_uint8(), len(session)
         while True:
             out = ctypes.create_string_buffer(room)
@@ -297,8 +301,8 @@ class Library:
         return sent
 
     def search(self, machine: Machine, inputs: Inputs, to: int, conditions: ctypes.Array, wanted: int) -> tuple[int, int] | None:
-        """The first or the last count, from a machine's up to another, at which one of these conditions holds, and the
-        index of the first that does; None if none holds. One call takes all of this: so give it a slice."""
+        """Returns the first or the last count, from a machine's up to another, at which one of these conditions holds,
+        and the index of the first that does; None if none holds. One call takes all of this: so give it a slice."""
         due, hit = inputs.raw(machine.count, to), RawHit()
         code = self.calls.galluspa_find(
             ctypes.byref(machine.state),
@@ -319,8 +323,8 @@ class Library:
         return hit.count, hit.condition
 
     def profile(self, machine: Machine, inputs: Inputs, to: int) -> Profile:
-        """How often each instruction is done from a machine's count up to another; the machine stays as it is. One call
-        takes all of this, so give it a slice; a call takes some milliseconds, however short."""
+        """Returns how often each instruction is done from a machine's count up to another; the machine stays as it is.
+        One call takes all of this, so give it a slice; a call takes some milliseconds, however short."""
         counted = Profile(*(array("Q", [0]) * WORDS for _ in range(2)))
         visits, departures = (Counts.from_buffer(it) for it in (counted.visits, counted.departures))
         due = inputs.raw(machine.count, to)
@@ -341,8 +345,8 @@ class Library:
         return counted
 
     def steps(self, machine: Machine, inputs: Inputs, number: int) -> ctypes.Array[RawProcessor]:
-        """The processors at so many counts, from a machine's on; the machine stays as it is. One call takes all of
-        this, so give it a slice."""
+        """Returns the processors at so many counts, from a machine's on; the machine stays as it is. One call takes all
+        of this, so give it a slice."""
         processors, due = (RawProcessor * number)(), inputs.raw(machine.count, machine.count + number)
         code = self.calls.galluspa_steps(
             ctypes.byref(machine.state),
@@ -380,10 +384,10 @@ class Library:
 
 
 def steps_after(machine: Machine, steps: int, most: int, seconds: float) -> int:
-    """How many steps the next slice has, after one of so many that took so long. Once a machine has stopped it does
-    nothing, however many they are."""
+    """Returns how many steps the next slice has, after one of so many that took so long. Once a machine has stopped it
+    does nothing, however many they are."""
     if machine.state.stop:
         return WHOLE_RUN
     if seconds > 2 * SLICE_SECONDS:
-        return max(steps // 2, 1)
+        return min(max(steps // 2, LEAST_STEPS), steps)
     return min(2 * steps, most) if seconds < SLICE_SECONDS / 2 else steps

@@ -16,11 +16,11 @@ class Limit:
 
     @property
     def is_over(self) -> bool:
-        """Whether the time is over."""
+        """Returns whether the time is over."""
         return time.monotonic() >= self._end
 
     def left(self) -> float:
-        """The seconds that are left; refused if none are."""
+        """Returns the seconds that are left. Raises TimeIsUp if none are."""
         left = self._end - time.monotonic()
         if left <= 0:
             raise TimeIsUp(self.answer)
@@ -28,5 +28,5 @@ class Limit:
 
     @property
     def answer(self) -> str:
-        """What a tool answers when the time is over."""
+        """Returns what a tool answers when the time is over."""
         return f"no answer in {self.seconds:g} s"

@@ -1,4 +1,4 @@
-"""Puts the live machine into a report: the parts of web/galluspa.html, and the recording that it opens."""
+"""Puts the live machine into a report: the parts of web/galluspa.html, the recording that it opens, its names and its sources."""
 
 import base64
 import gzip
@@ -6,15 +6,20 @@ import hashlib
 import io
 import json
 import re
+from collections.abc import Sequence
 from dataclasses import dataclass
+from pathlib import Path
 
 from markupsafe import Markup
 
 from galluspa import places
-from galluspa.command import Refused
+from galluspa.command import Refused, read_file
+from galluspa.escapes import printable
+from galluspa.symbols import NONE, Symbols
 
 PAGE = places.page()
 AT_ONCE = 1 << 20
+LONGEST_SOURCE = 4_000_000
 POLICY = (
     "default-src 'none'; script-src {scripts} 'wasm-unsafe-eval'; worker-src blob:; style-src 'unsafe-inline'; "
     "img-src data: blob:; base-uri 'none'; form-action 'none'"
@@ -22,33 +27,64 @@ POLICY = (
 
 
 @dataclass(frozen=True)
+class Source:
+    """The text of a source in a report: the name of its file, and its bytes as the page unpacks them."""
+
+    name: str
+    packed: str
+
+    @staticmethod
+    def of(path: Path) -> "Source":
+        """Returns the source in a file."""
+        text = read_file(path, LONGEST_SOURCE + 1)
+        if len(text) > LONGEST_SOURCE:
+            raise Refused(f"{path}: a source has at most {LONGEST_SOURCE:,} bytes")
+        try:
+            text.decode()
+        except UnicodeDecodeError as error:
+            raise Refused(f"{path}: not a text in UTF-8, from byte {error.start} on") from error
+        return Source(printable(path.name), _packed(text))
+
+
+@dataclass(frozen=True)
 class Live:
-    """The parts of a report that runs: the policy of its scripts, the machine with its style sheet, the recording, and
-    the script that begins."""
+    """The parts of a report that runs: the policy of its scripts, the machine with its style sheet, the recording, the
+    symbol file with its name, if there is one, the sources, and the script that begins."""
 
     policy: str
     style: Markup
     machine: Markup
     recording: str
+    symbols: str
+    symbols_from: str
+    sources: Sequence[Source]
     script: Markup
 
     @staticmethod
-    def of(name: str, text: bytes) -> "Live":
-        """The live machine around a recording of a name."""
+    def of(name: str, text: bytes, symbols: Symbols = NONE, sources: Sequence[Source] = ()) -> "Live":
+        """The live machine around a recording of a name, with the names of a symbol file and sources."""
         try:
             page = PAGE.read_text()
         except OSError as error:
             raise Refused(f"{PAGE}: {error.strerror}; a live report needs that page") from error
         machine = _part(page, r"<!-- begin machine -->\n(.*?)<!-- end machine -->")
         begin = f"beginReport({_quoted(name)});"
-        scripts = " ".join(map(_hashed, (_part(page, r'<script id="g-script">(.*?)</script>'), begin)))
+        scripts = " ".join((*_part(page, r"script-src ((?:'sha256-[^']*' ?)+)").split(), _hashed(begin)))
         return Live(
             policy=POLICY.format(scripts=scripts),
             style=Markup(_part(page, r'<style id="g-style">(.*?)</style>')),
             machine=Markup(machine),
-            recording=base64.b64encode(_compressed(text)).decode(),
+            recording=_packed(text),
+            symbols=_packed(symbols.content) if symbols.content else "",
+            symbols_from=symbols.origin,
+            sources=sources,
             script=Markup(begin),
         )
+
+
+def _packed(text: bytes) -> str:
+    """Bytes as the page unpacks them: compressed, as base64."""
+    return base64.b64encode(_compressed(text)).decode()
 
 
 def _compressed(text: bytes) -> bytes:

@@ -54,7 +54,7 @@ def page(commands: Iterable[Command], date: str) -> str:
 
 
 def _section(name: str, parser: Parser) -> Iterator[str]:
-    """The section of a subcommand: its arguments, what it does, its exit statuses and an example."""
+    """Yields the section of a subcommand: its arguments, what it does, its exit statuses and an example."""
     options = [it for it in parser._actions if it.option_strings and it.dest != "help"]
     operands = [it for it in parser._actions if not it.option_strings]
     yield f".Ss {name}"
@@ -78,7 +78,7 @@ def _section(name: str, parser: Parser) -> Iterator[str]:
 
 
 def _listed(rows: Iterable[tuple[str, str]]) -> Iterator[str]:
-    """A list of terms, each with a text."""
+    """Yields a list of terms, each with a text."""
     yield ".Bl -tag -width Ds"
     for term, text in rows:
         yield f".It {term}"
@@ -87,7 +87,7 @@ def _listed(rows: Iterable[tuple[str, str]]) -> Iterator[str]:
 
 
 def _description(text: str) -> Iterator[str]:
-    """A description as prose; rows of it that are set in, with a name before two spaces, as a list."""
+    """Yields a description as prose; rows of it that are set in, with a name before two spaces, as a list."""
     rows = re.split(r"\n  (?=\S)", text)
     yield from _prose(" ".join(rows[0].split()))
     if len(rows) > 1:
@@ -114,7 +114,7 @@ def _escaped(text: str) -> str:
 
 
 def _prose(text: str) -> Iterator[str]:
-    """Lines of text, each sentence on lines of its own."""
+    """Yields lines of text, each sentence on lines of its own."""
     for sentence in re.split(r"(?<=\.) (?=[A-Z])", text):
         for line in textwrap.wrap(_escaped(sentence), 78, break_long_words=False, break_on_hyphens=False):
             yield "\\&" + line if line[0] in ".'" else line

@@ -4,14 +4,16 @@ import re
 from collections.abc import Callable, Sequence
 from dataclasses import dataclass
 
-from galluspa.assembler import MOV, BYTE, LINK, U, V, branch, branch_register, imm, load, reg, store
+from galluspa.assembler import LINK, MOV, U, V, branch, branch_register, imm, load, reg
 from galluspa.expressions import Names, Value, evaluate
 from galluspa.instructions import CONDITIONS, OPERATIONS, instruction
-from galluspa.tokens import Kind, Token, Wrong, tokens_of
+from galluspa.language import LANGUAGE, advice
+from galluspa.tokens import Kind, Token, tokens_of, wrong
 
 REGISTER = re.compile(r"R(1[0-5]|[0-9])", re.IGNORECASE)
-SPECIALS = {"H": 0, "NZCV": V}
-MEMORY = {"LDR": (load, 0), "LDB": (load, BYTE), "STR": (store, 0), "STB": (store, BYTE)}
+SPECIALS = {name: number * V for number, name in enumerate(LANGUAGE["specials"])}
+# The highest four bits of each load and store.
+MEMORY: dict[str, int] = LANGUAGE["memory"]
 BRANCHES = {f"B{link}{name}": (number, LINK if link else 0) for link in ("", "L") for number, name in enumerate(CONDITIONS)}
 # The machine takes 22 bits of an offset. An offset below 0 is written with 24, as Project Oberon's compiler writes it.
 WIDENED = 3 << 22
@@ -30,7 +32,7 @@ class Operand:
 
 
 def register_of(name: str) -> int | None:
-    """The number of a register by its name; None of any other name."""
+    """Returns the number of a register by its name; None of any other name."""
     found = REGISTER.fullmatch(name)
     return int(found[1]) if found else None
 
@@ -42,7 +44,7 @@ def operand_of(
     here: int,
     registers: Callable[[str], int | None] = register_of,
 ) -> Operand:
-    """The operand that tokens write; `column` is that of its end."""
+    """Returns the operand that tokens write; `column` is that of its end."""
     text = " ".join(token.text for token in tokens)
     if len(tokens) == 1 and tokens[0].kind is Kind.NAME:
         if (register := registers(text)) is not None:
@@ -54,7 +56,7 @@ def operand_of(
 
 
 def encoded(name: Token, operands: Sequence[Operand], here: int, is_narrow: bool = False) -> int:
-    """The word of an instruction that lies at a byte address; if it is narrow, its offset is written with 22 bits."""
+    """Returns the word of an instruction that lies at a byte address; if it is narrow, its offset is written with 22 bits."""
     mnemonic = name.text.upper()
     if mnemonic in BRANCHES:
         return _branch(name, operands, here, 0 if is_narrow else WIDENED)
@@ -66,21 +68,21 @@ def _expect(name: Token, operands: Sequence[Operand], form: str) -> None:
     number = form.count(",") + 1
     if len(operands) != number:
         noun = "operand" if number == 1 else "operands"
-        raise Wrong(name.column, f"{name.text} needs {number} {noun} and has {len(operands) or 'none'}: " f"{name.text} {form}")
+        raise wrong(name.column, "operands", name=name.text, number=number, noun=noun, has=len(operands) or "none", form=form)
 
 
 def _register(operand: Operand) -> int:
     if operand.register is None:
-        raise Wrong(operand.column, f"{operand.text} is not a register from R0 to R15")
+        raise wrong(operand.column, "register", text=operand.text)
     return operand.register
 
 
-def _number(operand: Operand, least: int, most: int, what: str, advice: str = "") -> int:
+def _number(operand: Operand, least: int, most: int, what: str, said: str = "") -> int:
     if operand.value is None:
-        raise Wrong(operand.column, f"{operand.text} is not a number")
+        raise wrong(operand.column, "noNumber", text=operand.text)
     number = operand.value.number
     if not least <= number <= most:
-        raise Wrong(operand.column, f"{what} {number:,} is not from {least:,} to {most:,}{advice}")
+        raise wrong(operand.column, "range", what=what, number=number, least=least, most=most, advice=said)
     return number
 
 
@@ -92,11 +94,11 @@ def _operation(name: Token, operands: Sequence[Operand]) -> int:
     last = operands[-1]
     if last.register is not None:
         if op == MOV and u:
-            raise Wrong(last.column, "MOV' has H, NZCV or a number, and no register")
+            raise wrong(last.column, "moveRegister")
         return u | reg(op, a, b, last.register)
     if last.special:
         if op != MOV or not u:
-            raise Wrong(last.column, f"{last.text} is an operand of MOV' alone")
+            raise wrong(last.column, "special", text=last.text)
         return u | SPECIALS[last.special] | reg(op, a, b, 0)
     if op == MOV and u:
         return u | imm(op, a, b, _number(last, 0, 0xFFFF, "the upper half"))
@@ -104,37 +106,36 @@ def _operation(name: Token, operands: Sequence[Operand]) -> int:
 
 
 def _halves(op: int, a: int, operand: Operand) -> str:
-    """How a number that is not an immediate operand comes into a register, if it has 32 bits."""
+    """Returns how a number that is not an immediate operand comes into a register, if it has 32 bits."""
     number = operand.value.number if operand.value else 0
     if not -1 << 31 <= number < 1 << 32:
         return ""
     if op != MOV:
-        return ": MOV' and then IOR bring it into a register"
+        return advice("intoRegister")
     is_name = operand.text.replace(".", "_").isidentifier() and number >= 0
     halves = (f"{operand.text} {sign} 10000H" for sign in "/%") if is_name else divmod(number & 0xFFFFFFFF, 0x10000)
     upper, lower = halves
-    return f": write MOV' R{a}, {upper} and then IOR R{a}, R{a}, {lower}"
+    return advice("halves", a=a, upper=upper, lower=lower)
 
 
 def _memory(name: Token, operands: Sequence[Operand]) -> int:
     _expect(name, operands, "R1, R2, 4")
     last = operands[2]
     if last.register is not None:
-        raise Wrong(last.column, f"{last.text} is a register, and the offset is a number: ADD the two first")
-    form, byte = MEMORY[name.text.upper()]
+        raise wrong(last.column, "offsetRegister", text=last.text)
     a, b = (_register(operand) for operand in operands[:2])
-    return byte | form(a, b, _number(last, -0x80000, 0x7FFFF, "the offset"))
+    return MEMORY[name.text.upper()] << 28 | load(a, b, _number(last, -0x80000, 0x7FFFF, "the offset"))
 
 
 def _branch(name: Token, operands: Sequence[Operand], here: int, widened: int) -> int:
-    """A branch to a register's address, by a number of words, or to a place."""
+    """Returns a branch to a register's address, by a number of words, or to a place."""
     _expect(name, operands, "LABEL")
     (condition, link), target = BRANCHES[name.text.upper()], operands[0]
     if target.register is not None:
         return link | branch_register(condition, target.register)
     if target.value and target.value.is_place:
         if target.value.number % 4:
-            raise Wrong(target.column, f"the target {target.value.number:X}H is not a multiple of 4")
+            raise wrong(target.column, "target", number=target.value.number)
         offset = Value(target.value.number // 4 - here // 4 - 1)
         target = Operand(target.text, target.column, value=offset)
     number = _number(target, -0x200000, 0x1FFFFF, "the offset")
@@ -142,11 +143,11 @@ def _branch(name: Token, operands: Sequence[Operand], here: int, widened: int) -
 
 
 def _no_names(token: Token, depth: int) -> Value:
-    raise Wrong(token.column, f"{token.text} is not defined")
+    raise wrong(token.column, "undefined", name=token.text, advice="")
 
 
 def word_of(text: str) -> int:
-    """The word of an instruction without labels, as a listing writes it."""
+    """Returns the word of an instruction without labels, as a listing writes it."""
     name, *rest = tokens_of(text)
     ends = [at for at, token in enumerate(rest) if token.is_mark(",")] + [len(rest)]
     begins = [0, *(end + 1 for end in ends)]
@@ -155,7 +156,7 @@ def word_of(text: str) -> int:
 
 
 def source_of(word: int) -> str:
-    """What assembles to a word: its instruction; or its number, with the instruction as a comment, if it has bits
+    """Returns what assembles to a word: its instruction; or its number, with the instruction as a comment, if it has bits
     without effect that are other than those that an instruction gets."""
     mnemonic = instruction(word, 0).mnemonic
     return mnemonic if word_of(mnemonic) == word else f"word 0x{word:08X}  ; {mnemonic}"

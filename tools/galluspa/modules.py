@@ -38,7 +38,7 @@ class Module:
 
 
 def modules_of(memory: bytes) -> Iterator[Module]:
-    """The modules in a memory that has all its bytes, from the one that was loaded last on."""
+    """Yields the modules in a memory that has all its bytes, from the one that was loaded last on."""
     at, seen = _word(memory, ROOT_AT), set[int]()
     if not at:
         raise Refused(f"the word at byte {ROOT_AT} is 0: no module is loaded, or this is no memory of Project Oberon")
@@ -58,7 +58,7 @@ def modules_of(memory: bytes) -> Iterator[Module]:
 
 
 def _module(memory: bytes, at: int) -> Module:
-    """The module of a descriptor."""
+    """Returns the module of a descriptor."""
     name = _name(memory[at : at + NAME_BYTES], f"the descriptor at {at:X} (hexadecimal) has no name of a module")
     _, _, _, _, _, data, code, end, commands, *_ = WORDS.unpack_from(memory, at + NAME_BYTES)
     if not data <= code <= end <= MEMORY_BYTES or code % 4 or code >= MEMORY_BYTES:
@@ -70,8 +70,8 @@ def _module(memory: bytes, at: int) -> Module:
 
 
 def _commands(memory: bytes, module: str, at: int, code: range) -> Iterator[tuple[str, int]]:
-    """The commands of a module: each a name that ends with a byte 0, filled up with more of these to a multiple of 4,
-    and a word, the offset of its code. A byte 0 comes after the last."""
+    """Yields the commands of a module: each a name that ends with a byte 0, filled up with more of these to a multiple
+    of 4, and a word, the offset of its code. A byte 0 comes after the last."""
     for _ in range(MOST_COMMANDS):
         if at >= MEMORY_BYTES:
             raise Refused(f"module {module}: the list of commands leads to {at:X} (hexadecimal), beyond the memory")
@@ -88,7 +88,7 @@ def _commands(memory: bytes, module: str, at: int, code: range) -> Iterator[tupl
 
 
 def _name(content: bytes, mistake: str) -> str:
-    """The name at the beginning of some bytes, which has to end in them."""
+    """Returns the name at the beginning of some bytes, which has to end in them."""
     name, end, _ = content.partition(b"\0")
     if not end or not IDENTIFIER.fullmatch(name):
         raise Refused(f"{mistake}: {shown(name.decode('latin-1'))}")
@@ -96,14 +96,14 @@ def _name(content: bytes, mistake: str) -> str:
 
 
 def _word(memory: bytes, at: int) -> int:
-    """The word at a byte address; refused if there is none."""
+    """Returns the word at a byte address. Raises Refused if there is none."""
     if at + 4 > MEMORY_BYTES:
         raise Refused(f"the list of modules leads to {at:X} (hexadecimal), beyond the memory")
     return struct.unpack_from("<I", memory, at)[0]
 
 
 def symbols_of(memory: bytes) -> Iterator[Symbol]:
-    """The symbols of the modules in a memory: of each its code, its data, and its commands."""
+    """Yields the symbols of the modules in a memory: of each its code, its data, and its commands."""
     for it in modules_of(memory):
         if it.code > it.data:
             yield Symbol(it.data, it.code - it.data, DATA, f"{it.name}:data")

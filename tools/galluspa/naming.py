@@ -30,23 +30,23 @@ WAY_BACK = 0xC7
 
 
 def is_call(word: int) -> bool:
-    """Whether a word is a branch that may be taken and keeps the way back."""
+    """Returns whether a word is a branch that may be taken and keeps the way back."""
     return is_branch(word) and bool(word & LINK) and word >> 24 & 15 != NEVER
 
 
 def is_way_back(word: int) -> bool:
-    """Whether a word is a branch to the address in a register, without a link, as a procedure ends."""
+    """Returns whether a word is a branch to the address in a register, without a link, as a procedure ends."""
     return is_branch(word) and not word & (LINK | U)
 
 
 def with_remark(shown: str, remarks: Sequence[str]) -> str:
-    """A line, with what is said by name after it."""
+    """Returns a line, with what is said by name after it."""
     return f"{shown}  ; {', '.join(remarks)}" if remarks else shown
 
 
 def remarks_on(step: Step, symbols: Symbols) -> Iterator[str]:
-    """What a symbol file says of an instruction besides its name: the line of the source, where a branch goes, and what
-    is loaded or stored."""
+    """Yields what a symbol file says of an instruction besides its name: the line of the source, where a branch goes,
+    and what is loaded or stored."""
     if not symbols or step.word is None:
         return
     if source := symbols.source(4 * step.before.pc):
@@ -58,27 +58,27 @@ def remarks_on(step: Step, symbols: Symbols) -> Iterator[str]:
 
 
 def _target(step: Step, symbols: Symbols) -> str:
-    """The name of where a branch that is taken goes."""
+    """Returns the name of where a branch that is taken goes."""
     is_taken = step.word is not None and is_branch(step.word) and step.after.pc != step.before.pc + 1
     return symbols.text(4 * step.after.pc) if is_taken else ""
 
 
 def _accessed(step: Step, symbols: Symbols) -> str:
-    """The name of what is loaded or stored."""
+    """Returns the name of what is loaded or stored."""
     at = None if step.word is None else address(step.word, step.before.registers)
     return "" if at is None else symbols.text(at)
 
 
 def placed_lines(step: Step, symbols: Symbols) -> list[str]:
-    """The lines that show an instruction, with all that is said of it by name: where it is, too."""
+    """Returns the lines that show an instruction, with all that is said of it by name: where it is, too."""
     *inputs, shown = lines(step)
     place = symbols.text(4 * step.before.pc)
     return [*inputs, with_remark(shown, [*filter(None, [place]), *remarks_on(step, symbols)])]
 
 
 def remark_on_part(part: str, values: Sequence[str], symbols: Symbols) -> str:
-    """What a symbol file says of a part of a state and of its values: the names of a word of memory, or of those words
-    to which program counters point."""
+    """Returns what a symbol file says of a part of a state and of its values: the names of a word of memory, or of
+    those words to which program counters point."""
     if found := WORD_OF_MEMORY.search(part):
         return symbols.text(int(found[1], 16))
     names = [symbols.text(4 * int(it)) for it in values] if part.strip() == "PC" else []
@@ -86,14 +86,14 @@ def remark_on_part(part: str, values: Sequence[str], symbols: Symbols) -> str:
 
 
 def named_row(row: Sequence[str], symbols: Symbols) -> Sequence[str]:
-    """A row of a part and of its values, with what a symbol file says of them after it."""
+    """Returns a row of a part and of its values, with what a symbol file says of them after it."""
     part, *values, last = row
     return (part, *values, with_remark(last, [*filter(None, [remark_on_part(part, [*values, last], symbols)])]))
 
 
 def named_object(step: Step, symbols: Symbols) -> dict[str, object]:
-    """An instruction for machines, with a member for names if there are any: those of the PC, of the line of the
-    source, of where a branch goes, and of the address of a load or a store."""
+    """Returns an instruction for machines, with a member for names if there are any: those of the PC, of the line of
+    the source, of where a branch goes, and of the address of a load or a store."""
     if not symbols:
         return as_object(step)
     at = 4 * step.before.pc
@@ -117,8 +117,8 @@ class Callers:
 
     @cached_property
     def _entries(self) -> list[int]:
-        """Where procedures probably begin, by rising address: where calls by an offset go to, and at names that come
-        after a way back or after data."""
+        """Returns where procedures probably begin, by rising address: where calls by an offset go to, and at names that
+        come after a way back or after data."""
         calls = [at for at, word in enumerate(self._words) if word >> 28 == CALL_BY_OFFSET]
         words, symbols = self._words, self._symbols
         named = symbols.begins()
@@ -127,16 +127,17 @@ class Callers:
         return sorted({*map(self._called_by, calls), *ended, *after_data})
 
     def _called_by(self, at: int) -> int:
-        """The address that the call by an offset in a word goes to."""
+        """Returns the address that the call by an offset in a word goes to."""
         return 4 * ((at + 1 + self._words[at]) % (1 << OFFSET_BITS))
 
     def entry_of(self, at: int) -> int | None:
-        """Where the procedure probably begins that an address is in; None if none begins before it."""
+        """Returns where the procedure probably begins that an address is in; None if none begins before it."""
         before = bisect_right(self._entries, at) - 1
         return self._entries[before] if before >= 0 else None
 
     def text(self, at: int) -> str:
-        """An address as the name of the procedure that it is in, or as the last name before it, or as a number."""
+        """Returns an address as the name of the procedure that it is in, or as the last name before it, or as a
+        number."""
         entry = self.entry_of(at)
         if entry is not None and self._symbols.start_of(entry) == entry:
             offset = f" + 0x{at - entry:X}" if at > entry else ""
@@ -144,12 +145,12 @@ class Callers:
         return self._symbols.text(at) or f"0x{at:X}"
 
     def of(self, state: Checkpoint) -> list[str]:
-        """Where the machine is, who probably called that, who called that one, and so on."""
+        """Returns where the machine is, who probably called that, who called that one, and so on."""
         at = 4 * state.pc
         return [self.text(it) for it in [at, *self._callers(at, state.registers)][: MOST_CALLERS + 1]]
 
     def ways_back(self, state: Checkpoint) -> list[int]:
-        """The addresses that probably go on after each call that the machine is in, the last call first."""
+        """Returns the addresses that probably go on after each call that the machine is in, the last call first."""
         return list(islice(self._callers(4 * state.pc, state.registers), MOST_CALLERS))
 
     def _callers(self, at: int, registers: Sequence[int]) -> Iterator[int]:
@@ -169,11 +170,11 @@ class Callers:
                 at = word
 
     def follows_call(self, back: int) -> bool:
-        """Whether a word is the address of an instruction that comes after a call."""
+        """Returns whether a word is the address of an instruction that comes after a call."""
         return back % 4 == 0 and 4 <= back < MEMORY_BYTES and is_call(self._words[back // 4 - 1])
 
     def _is_way_back(self, back: int, at: int) -> bool:
-        """Whether a word may be the way back from the procedure that an address is in."""
+        """Returns whether a word may be the way back from the procedure that an address is in."""
         if not self.follows_call(back):
             return False
         call, entry = self._words[back // 4 - 1], self.entry_of(at)
@@ -191,14 +192,14 @@ class Trace:
         self._last: object = None
 
     def lines(self, step: Step) -> Iterator[str]:
-        """The lines that show the next instruction."""
+        """Yields the lines that show the next instruction."""
         yield from self._heading(step)
         *inputs, shown = lines(step)
         yield from inputs
         yield with_remark(shown, list(remarks_on(step, self._symbols)))
 
     def object(self, step: Step) -> dict[str, object]:
-        """The next instruction for machines; where the place changes, with those who probably called."""
+        """Returns the next instruction for machines; where the place changes, with those who probably called."""
         is_new = self._is_new(step)
         shown = named_object(step, self._symbols)
         if self._callers and is_new:
@@ -216,7 +217,7 @@ class Trace:
         self._keep(step)
 
     def _is_new(self, step: Step) -> bool:
-        """Whether an instruction is at another name than the one before it, or in another procedure."""
+        """Returns whether an instruction is at another name than the one before it, or in another procedure."""
         at = 4 * step.before.pc
         place = (self._symbols.start_of(at), self._callers.entry_of(at) if self._callers else None)
         self._last, last = place, self._last

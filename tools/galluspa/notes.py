@@ -24,7 +24,7 @@ class Note:
 
     @staticmethod
     def of(title: str | None, path: Path | None) -> "Note":
-        """The note in a file, under a title; nothing if neither is given."""
+        """Returns the note in a file, under a title; nothing if neither is given."""
         lines = _lines(path) if path else []
         if title is not None:
             shown = printable(title.strip())
@@ -39,7 +39,7 @@ class Note:
 
 
 def _lines(path: Path) -> list[str]:
-    """The lines of a note, without empty ones at its beginning and its end. What cannot be seen is escaped."""
+    """Returns the lines of a note, without empty ones at its beginning and its end. What cannot be seen is escaped."""
     content = read_file(path, MOST_BYTES + 1)
     if len(content) > MOST_BYTES:
         raise Refused(f"{path}: a note has at most {MOST_BYTES:,} bytes")

@@ -16,7 +16,7 @@ MOST, FEW = 0.9, 0.6
 
 
 def oddities(session: Session, address: int) -> Iterator[str]:
-    """What is odd about a session, if an image from a byte address on is all of its memory."""
+    """Yields what is odd about a session, if an image from a byte address on is all of its memory."""
     at, first, end = 4 * session.pc, address, len(session.memory)
     whole = session.memory[: end // 4 * 4]
     words, other = (struct.unpack(f"{order}{len(whole) // 4}I", whole) for order in "<>")
@@ -42,8 +42,8 @@ def oddities(session: Session, address: int) -> Iterator[str]:
 
 
 def is_code(words: Sequence[int], start: int, first: int, share: float = MOST) -> bool:
-    """Whether such a share of the words from one on, up to one that always branches, may be instructions, if the code
-    is in the words from a byte address on. Words that are 0 say nothing."""
+    """Returns whether such a share of the words from one on, up to one that always branches, may be instructions, if
+    the code is in the words from a byte address on. Words that are 0 say nothing."""
     some = list(_until_branch(words[start : start + LOOKED_AT]))
     likely = [_is_likely(word, at, first // 4, len(words)) for at, word in enumerate(some, start) if word]
     return bool(likely) and sum(likely) >= share * len(likely)
@@ -57,8 +57,8 @@ def _until_branch(words: Sequence[int]) -> Iterator[int]:
 
 
 def _is_likely(word: int, at: int, first: int, end: int) -> bool:
-    """Whether a word is as compilers and assemblers write an instruction: no bit of it is without effect, it stops no
-    machine, and a branch goes to one of the words of the code."""
+    """Returns whether a word is as compilers and assemblers write an instruction: no bit of it is without effect, it
+    stops no machine, and a branch goes to one of the words of the code."""
     has_immediate, has_u, has_v = (bool(word >> place & 1) for place in (30, 29, 28))
     operation = word >> 16 & 15
     if is_branch(word):

@@ -8,12 +8,13 @@ import subprocess
 import sysconfig
 import tarfile
 from collections.abc import Iterator
-from dataclasses import dataclass
+from dataclasses import dataclass, replace
 from pathlib import Path
 from typing import IO, cast
 
 from galluspa.command import Refused, read_file
 from galluspa.commands import NAME, commands
+from galluspa.commands.build_library import SONAME
 from galluspa.manual import completion, page
 from galluspa.places import TOP
 from galluspa.program import Program
@@ -45,7 +46,7 @@ EARLIER_COMMANDS = (
     "suite",
     "trace",
 )
-LIBRARIES = ("libgalluspa.a", "libgalluspa.so")
+STATIC, SHARED = LIBRARIES = ("libgalluspa.a", "libgalluspa.so")
 BUILT = ("crates/galluspa/out", "out/lib")
 FOLDERS = ("tools", "examples", "bench", "reference", "docs", "include")
 TEXTS = ("README.md", "CHANGELOG.md", "LICENSE", "web/galluspa.html", "galluspa")
@@ -65,7 +66,8 @@ An emulator of the workstation of Project Oberon (2013), with a recorder of sess
 | the documents, which README.md lists | `share/galluspa/README.md`, `share/galluspa/docs/` |
 | examples, and a suite of recordings for emulators | `share/galluspa/examples/` |
 | the live page | `share/galluspa/web/galluspa.html` |
-| the library for C, and its header | `lib/`, `include/galluspa.h` |
+| the library for C, and its header; `pkg-config --cflags --libs galluspa` names both | `lib/`, `include/galluspa.h` |
+| the package of Python, for `import galluspa` | `lib/python3/dist-packages/` |
 
 If `bin/` is not in your path, as it is not after a tarball is unpacked, type `bin/galluspa`. The documents also
 describe how to prove and build the program from its sources, which are not in this package.
@@ -78,12 +80,23 @@ Exec=galluspa live
 Terminal=false
 Categories=System;Emulator;
 """
+# How compilers find the header and the library; a package may be unpacked anywhere.
+PKG_CONFIG = """prefix=${{pcfiledir}}/{up}
+libdir=${{pcfiledir}}/..
+includedir=${{prefix}}/include
+
+Name: galluspa
+Description: proved emulator, recorder and checker of Project Oberon's workstation
+Version: {version}
+Cflags: -I${{includedir}}
+Libs: -L${{libdir}} -lgalluspa
+"""
 # What a clone has and nothing that is installed: what is built or compiled, and what makes packages.
 ONLY_HERE = {"__pycache__", "out", "build_library.py", "package.py", "packages.py", "manual.py", "wheel.py"}
 
 
 def library_folder(given: Path | None) -> Path:
-    """The folder that was given, or else the first in which both libraries were built."""
+    """Returns the folder that was given, or else the first in which both libraries were built."""
     folders = [given] if given else [TOP / folder for folder in BUILT]
     for folder in folders:
         if all((folder / name).is_file() for name in LIBRARIES):
@@ -94,11 +107,13 @@ def library_folder(given: Path | None) -> Path:
 
 @dataclass(frozen=True)
 class File:
-    """A file to install: its path below the prefix, its content, and whether it can be run."""
+    """A file to install: its path below the prefix, its content, and whether it can be run; or a link to a path from its own
+    folder on."""
 
     path: str
-    content: bytes
+    content: bytes = b""
     is_run: bool = False
+    target: str = ""
 
 
 @dataclass(frozen=True)
@@ -112,11 +127,12 @@ class Contents:
     date: str
 
     def files(self) -> Iterator[File]:
-        """All files, below a prefix such as /usr; share/galluspa is laid out as the repository."""
+        """Yields all files, below a prefix such as /usr; share/galluspa is laid out as the repository."""
         yield File("bin/oberon_replay", read_file(self.program.path), True)
         yield File(f"bin/{NAME}", LAUNCHER.encode(), True)
         yield from (File(f"bin/{NAME}-{name}", EARLIER.format(name=name).encode(), True) for name in EARLIER_COMMANDS)
-        yield from (File(f"lib/{_multiarch()}/{name}", read_file(self.library / name)) for name in LIBRARIES)
+        yield from self._library(f"lib/{_multiarch()}")
+        yield File(f"lib/python3/dist-packages/{NAME}", target=f"../../../share/galluspa/tools/{NAME}")
         yield File("include/galluspa.h", read_file(TOP / "include/galluspa.h"))
         yield File("share/galluspa/VERSION", f"{self.version}\n".encode())
         yield File("share/applications/galluspa.desktop", MENU.encode())
@@ -127,8 +143,16 @@ class Contents:
         yield from (File(f"share/galluspa/{name}", read_file(TOP / name), _is_run(TOP / name)) for name in TEXTS)
         yield File("share/doc/galluspa/copyright", read_file(TOP / "LICENSE"))
 
+    def _library(self, folder: str) -> Iterator[File]:
+        """Yields the libraries in a folder, and the file by which pkg-config finds them."""
+        yield File(f"{folder}/{STATIC}", read_file(self.library / STATIC))
+        yield File(f"{folder}/{SONAME}", read_file(self.library / SHARED))
+        yield File(f"{folder}/{SHARED}", target=SONAME)
+        found = PKG_CONFIG.format(up="/".join(".." for _ in Path(folder, "pkgconfig").parts), version=self.version)
+        yield File(f"{folder}/pkgconfig/galluspa.pc", found.encode())
+
     def _words(self) -> Iterator[File]:
-        """The manual pages, and the completion of each command."""
+        """Yields the manual pages, and the completion of each command."""
         there = commands(is_clone=False)
         pages = {NAME: page(there, self.date).encode(), "oberon_replay": read_file(TOP / "docs/oberon_replay.1")}
         yield from (File(f"share/man/man1/{name}.1.gz", gzip.compress(text, mtime=0)) for name, text in pages.items())
@@ -138,12 +162,12 @@ class Contents:
 
 
 def about() -> File:
-    """The README at the top of a tarball."""
+    """Returns the README at the top of a tarball."""
     return File("README.md", ABOUT.format(prefix="this folder").encode())
 
 
 def _tree(folder: Path, to: str) -> Iterator[File]:
-    """The files of a folder, but for what only a clone has, and for the earlier names of the subcommands."""
+    """Yields the files of a folder, but for what only a clone has, and for the earlier names of the subcommands."""
     for path in sorted(folder.rglob("*")):
         parts = path.relative_to(folder).parts
         if path.is_file() and not ONLY_HERE & set(parts) and (folder, _is_run(path)) != (TOP / "tools", True):
@@ -151,7 +175,7 @@ def _tree(folder: Path, to: str) -> Iterator[File]:
 
 
 def _is_run(path: Path) -> bool:
-    """Whether a file can be run."""
+    """Returns whether a file can be run."""
     return bool(path.stat().st_mode & 0o111)
 
 
@@ -160,7 +184,7 @@ def _multiarch() -> str:
 
 
 def commands_of(program: Program) -> dict[str, list[str]]:
-    """The commands of the program and the options of each, as its help has them."""
+    """Returns the commands of the program and the options of each, as its help has them."""
 
     def help_of(*arguments: str) -> str:
         ran = subprocess.run([program.path, *arguments, "--help"], stdout=subprocess.PIPE, check=False)
@@ -171,7 +195,7 @@ def commands_of(program: Program) -> dict[str, list[str]]:
 
 
 def architecture() -> str:
-    """The name that Debian has for this machine."""
+    """Returns the name that Debian has for this machine."""
     try:
         ran = subprocess.run(["dpkg", "--print-architecture"], stdout=subprocess.PIPE, check=True)
         return ran.stdout.decode().strip()
@@ -180,7 +204,7 @@ def architecture() -> str:
 
 
 def tarball(files: list[File], folder: str, when: int) -> bytes:
-    """The files as a tarball, in a folder; the same files and the same time give the same bytes."""
+    """Returns the files as a tarball, in a folder; the same files and the same time give the same bytes."""
     out = io.BytesIO()
     with (
         gzip.GzipFile(fileobj=out, mode="wb", mtime=0) as packed,
@@ -189,6 +213,8 @@ def tarball(files: list[File], folder: str, when: int) -> bytes:
         for it in sorted(files, key=lambda file: file.path):
             info = tarfile.TarInfo(f"{folder}/{it.path}")
             info.size, info.mode, info.mtime = len(it.content), 0o755 if it.is_run else 0o644, when
+            if it.target:
+                info.type, info.linkname, info.mode = tarfile.SYMTYPE, it.target, 0o777
             tar.addfile(info, io.BytesIO(it.content))
     return out.getvalue()
 
@@ -198,14 +224,17 @@ def write_tree(files: list[File], root: Path) -> None:
     for it in files:
         path = root / it.path
         path.parent.mkdir(parents=True, exist_ok=True)
+        if it.target:
+            path.symlink_to(it.target)
+            continue
         path.write_bytes(it.content)
         path.chmod(0o755 if it.is_run else 0o644)
 
 
 def debian(files: list[File], version: str, room: Path, when: int) -> bytes:
-    """The files as a package of Debian, laid out in a room of its own."""
-    write_tree([File(f"usr/{it.path}", it.content, it.is_run) for it in files], room / "tree")
-    sums = "".join(f"{hashlib.md5(it.content).hexdigest()}  usr/{it.path}\n" for it in files)
+    """Returns the files as a package of Debian, laid out in a room of its own."""
+    write_tree([replace(it, path=f"usr/{it.path}") for it in files], room / "tree")
+    sums = "".join(f"{hashlib.md5(it.content).hexdigest()}  usr/{it.path}\n" for it in files if not it.target)
     size = sum(len(it.content) for it in files) // 1024
     control = f"""Package: galluspa
 Version: {version}
@@ -223,7 +252,8 @@ Description: proved emulator and checker of Project Oberon's RISC5 workstation
     of_package = {"control": control.encode(), "md5sums": sums.encode(), "triggers": b"activate-noawait ldconfig\n"}
     write_tree([File(name, content) for name, content in of_package.items()], room / "tree/DEBIAN")
     for path in [room / "tree", *(room / "tree").rglob("*")]:
-        path.chmod(0o755 if path.is_dir() else path.stat().st_mode)
+        if not path.is_symlink():
+            path.chmod(0o755 if path.is_dir() else path.stat().st_mode)
     command = ["dpkg-deb", "--root-owner-group", "--build", str(room / "tree"), str(room / "it.deb")]
     environment = {"SOURCE_DATE_EPOCH": str(when), "PATH": "/usr/bin:/bin"}
     made = subprocess.run(command, stdout=subprocess.PIPE, stderr=subprocess.STDOUT, check=False, env=environment)

@@ -4,10 +4,11 @@ import base64
 import hashlib
 import os
 import shlex
-from collections.abc import Iterable, Iterator
+from collections.abc import Iterable, Iterator, Sequence
 from dataclasses import dataclass, field, replace
 from functools import cached_property
 from itertools import groupby, islice
+from pathlib import Path
 
 from markupsafe import Markup
 
@@ -20,7 +21,7 @@ from galluspa.film import picture
 from galluspa.instructions import instruction
 from galluspa.library import Library
 from galluspa.limits import TimeIsUp
-from galluspa.live import Live
+from galluspa.live import Live, Source
 from galluspa.naming import placed_lines, remark_on_part, with_remark
 from galluspa.notes import Note
 from galluspa.pages import templates
@@ -144,6 +145,8 @@ class Report:
     note: Note = Note()
     # The count with which the page begins, if one is wanted.
     at: int | None = None
+    # The sources that a live page shows.
+    sources: Sequence[Path] = ()
 
     @staticmethod
     def of(program: Program, name: str, text: bytes, library: str | None = None, symbols: Symbols = NONE) -> "Report":
@@ -219,7 +222,7 @@ class Report:
         false_at, false_part = self.answer.false_claim or (None, None)
         drawn = screens(self.program, self.recording) if self.recording else None
         return found.get_template("report.html.j2").generate(
-            live=Live.of(self.name, self.text) if is_live else None,
+            live=Live.of(self.name, self.text, self.symbols, [Source.of(path) for path in self.sources]) if is_live else None,
             name=self.name,
             size=len(self.text),
             digest=hashlib.sha256(self.text).hexdigest(),
@@ -256,7 +259,7 @@ class Report:
             yield from fault.explanation
             yield from (line.before + line.marked + line.after for line in fault.lines)
         if self.false:
-            yield from explanation.plain(self.false, symbols=self.symbols)
+            yield from explanation.plain(self.false, self.name, symbols=self.symbols)
             yield ""
         if self.over:
             yield self.over

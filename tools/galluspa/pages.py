@@ -8,7 +8,7 @@ POLICY = "default-src 'none'; style-src 'unsafe-inline'; img-src data:; base-uri
 
 
 def templates() -> Environment:
-    """The templates of pages, which refuse what they are not given. In them all text is escaped."""
+    """Returns the templates of pages, which refuse what they are not given. In them all text is escaped."""
     folder = Path(__file__).resolve().parent
     made = Environment(
         loader=FileSystemLoader(folder), autoescape=True, trim_blocks=True, lstrip_blocks=True, undefined=StrictUndefined

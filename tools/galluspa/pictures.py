@@ -33,13 +33,13 @@ class Screens:
 
     @property
     def missing(self) -> int:
-        """How many screens have no picture."""
+        """Returns how many screens have no picture."""
         return len(set(self.first)) - len(self.full) - len(self.small)
 
 
 def screens(program: Program, read: Recording) -> Screens:
-    """The screens of a recording's checkpoints, as long as there are room and time; the program is asked once for each
-    that differs from all before it."""
+    """Returns the screens of a recording's checkpoints, as long as there are room and time; the program is asked once
+    for each that differs from all before it."""
     made = Screens(_first_alike(read), {}, {})
     numbers = sorted(set(made.first))
 
@@ -63,20 +63,20 @@ def _size(pictures: dict[int, bytes]) -> int:
 
 
 def display_alone(read: Recording, checkpoint: Checkpoint) -> bytes:
-    """A recording of one state, that of a checkpoint with its display and no other memory: so that drawing one screen
-    of many does not want the whole text read again."""
+    """Returns a recording of one state, that of a checkpoint with its display and no other memory: so that drawing one
+    screen of many does not want the whole text read again."""
     return of_display(checkpoint, b"".join(map(read.page, checkpoint.table[DISPLAY_START // PAGE_BYTES :])))
 
 
 def png(pbm: bytes) -> bytes:
-    """A picture that the program printed, as PNG."""
+    """Returns a picture that the program printed, as PNG."""
     out = io.BytesIO()
     Image.open(io.BytesIO(pbm)).save(out, "PNG", optimize=True)
     return out.getvalue()
 
 
 def small_png(pbm: bytes) -> bytes:
-    """A picture that the program printed, small, as PNG: in few greys, so that it has few bytes."""
+    """Returns a picture that the program printed, small, as PNG: in few greys, so that it has few bytes."""
     out = io.BytesIO()
     small = Image.open(io.BytesIO(pbm)).convert("L").resize(SMALL, Image.Resampling.BOX)
     step = 255 // (GREYS - 1)
@@ -85,8 +85,8 @@ def small_png(pbm: bytes) -> bytes:
 
 
 def with_differences_in_red(pbm: bytes, other: bytes) -> bytes:
-    """A picture that the program printed, as PNG in which the dots that another one has differently are red: dark where
-    they are set, and light where they are not."""
+    """Returns a picture that the program printed, as PNG in which the dots that another one has differently are red:
+    dark where they are set, and light where they are not."""
     picture, another = (Image.open(io.BytesIO(it)).convert("1") for it in (pbm, other))
     red, light = (Image.new("RGB", picture.size, color) for color in (RED, LIGHT_RED))
     shown = picture.convert("RGB")

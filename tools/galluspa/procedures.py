@@ -42,19 +42,19 @@ class Procedures:
         self._named = {at // 4 for it in symbols.code() for at in range(it.start, min(it.stop, MEMORY_BYTES), 4)}
 
     def word(self, at: int) -> int:
-        """The word at a number: the one that was executed, or else the one at the end of the first run."""
+        """Returns the word at a number: the one that was executed, or else the one at the end of the first run."""
         return self._seen.words.get(at, self._seen.memory[at])
 
     @cached_property
     def _callers(self) -> Callers:
-        """Where procedures begin. What is neither executed nor has a name of code counts as no call."""
+        """Returns where procedures begin. What is neither executed nor has a name of code counts as no call."""
         words = [0] * WORDS
         for at in (*self._named, *self._seen.words):
             words[at] = self.word(at)
         return Callers(words, self._symbols)
 
     def of(self, at: int) -> Procedure:
-        """The procedure that a word is in."""
+        """Returns the procedure that a word is in."""
         if self._symbols and at not in self._named:
             return Procedure(WORDS, NO_NAME, NO_MODULE)
         entry = self._callers.entry_of(4 * at)
@@ -65,7 +65,7 @@ class Procedures:
         return self._known[entry]
 
     def _made(self, entry: int) -> Procedure:
-        """The procedure that begins at an address."""
+        """Returns the procedure that begins at an address."""
         source = self.source(entry // 4)
         name = self._symbols.text(entry)
         if not name:
@@ -74,23 +74,23 @@ class Procedures:
         return Procedure(entry // 4, name, module if dot else PurePath(source.file).name or NO_MODULE, source)
 
     def source(self, at: int) -> Source:
-        """The line of the source that a word is of; one without a file if it is not known."""
+        """Returns the line of the source that a word is of; one without a file if it is not known."""
         return self._symbols.line_at(4 * at) or NO_SOURCE
 
     def place(self, at: int) -> str:
-        """A word as its name and bytes from there on, or as its address."""
+        """Returns a word as its name and bytes from there on, or as its address."""
         return self._symbols.text(4 * at) or f"0x{4 * at:X}"
 
     def all(self) -> dict[Procedure, Sequence[int]]:
-        """The numbers of the words of each procedure, in rising order. After its last word that is executed, a procedure
-        ends before the first word that is 0: a name without a size reaches further than its procedure."""
+        """Returns the numbers of the words of each procedure, in rising order. After its last word that is executed, a
+        procedure ends before the first word that is 0: a name without a size reaches further than its procedure."""
         found: dict[Procedure, list[int]] = {}
         for at in sorted({*self._named, *self._seen.words}):
             found.setdefault(self.of(at), []).append(at)
         return {it: whole for it, words in sorted(found.items()) if (whole := self._up_to_end(words))}
 
     def _up_to_end(self, words: Sequence[int]) -> Sequence[int]:
-        """Those of the words of a procedure that come before its end."""
+        """Returns those of the words of a procedure that come before its end."""
         last = max((place for place, at in enumerate(words) if at in self._seen.visits), default=-1)
         ends = (place for place in range(last + 1, len(words)) if not self.word(words[place]))
         return words[: next(ends, len(words))]

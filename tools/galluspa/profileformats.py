@@ -13,12 +13,12 @@ UNKNOWN_FILE = "(unknown)"
 
 
 def share(some: int, of: int) -> str:
-    """So many of so many in percent."""
+    """Returns so many of so many in percent."""
     return f"{100 * some / of if of else 0:.1f} %"
 
 
 def text(profile: Profile) -> Iterator[str]:
-    """The procedures of a profile, and the calls between them."""
+    """Yields the procedures of a profile, and the calls between them."""
     yield summary(profile)
     yield ""
     yield f"{'instructions':>14}  {'':>7}  {'with callees':>14}  {'':>7}  {'calls':>12}  procedure"
@@ -33,7 +33,7 @@ def text(profile: Profile) -> Iterator[str]:
 
 
 def summary(profile: Profile) -> str:
-    """What was counted, and what is estimated."""
+    """Returns what was counted, and what is estimated."""
     followed = profile.followed.followed
     some = "all of them" if profile.is_whole else f"{followed:,} of them"
     return (
@@ -43,7 +43,7 @@ def summary(profile: Profile) -> str:
 
 
 def as_object(profile: Profile) -> dict[str, object]:
-    """A profile for other programs: numbers and names alone."""
+    """Returns a profile for other programs: numbers and names alone."""
     _, inclusive = profile.inclusive()
     return {
         "from": profile.first,
@@ -68,7 +68,7 @@ def as_object(profile: Profile) -> dict[str, object]:
 
 
 def folded(profile: Profile) -> Iterator[str]:
-    """The stacks of a profile as lines that flame graphs are made of."""
+    """Yields the stacks of a profile as lines that flame graphs are made of."""
     stacks: Counter[str] = Counter()
     for names, count in profile.stacks():
         stacks[";".join(re.sub(r"[;\s]+", "_", name) for name in names)] += count
@@ -76,7 +76,7 @@ def folded(profile: Profile) -> Iterator[str]:
 
 
 def callgrind(profile: Profile, name: str) -> Iterator[str]:
-    """A profile in the format of callgrind: the instructions of each line, and the calls."""
+    """Yields a profile in the format of callgrind: the instructions of each line, and the calls."""
     yield from (
         "# callgrind format",
         "version: 1",
@@ -112,17 +112,17 @@ def callgrind(profile: Profile, name: str) -> Iterator[str]:
 
 
 def _file(procedure: Procedure) -> str:
-    """The file of the source of a procedure."""
+    """Returns the file of the source of a procedure."""
     return procedure.source.file or UNKNOWN_FILE
 
 
 def _name(procedure: Procedure) -> str:
-    """The name of a procedure, which callgrind's reader does not take for a number in place of one."""
+    """Returns the name of a procedure, which callgrind's reader does not take for a number in place of one."""
     return COMPRESSED.sub("_", procedure.name)
 
 
 def difference(profile: Profile, other: Profile) -> Iterator[str]:
-    """The procedures whose instructions or calls differ between two profiles, what differs most first."""
+    """Yields the procedures whose instructions or calls differ between two profiles, what differs most first."""
     here, there = ({it.procedure.name: (it.own, it.calls) for it in one.rows()} for one in (profile, other))
     nothing = (0, 0)
     rows = [(name, here.get(name, nothing), there.get(name, nothing)) for name in {**here, **there}]

@@ -26,7 +26,7 @@ class Box:
 
 
 def boxes(profile: Profile) -> Iterator[Box]:
-    """The boxes of a profile's stacks; those of callers are above those of what they call."""
+    """Yields the boxes of a profile's stacks; those of callers are above those of what they call."""
     whole = {id(node): node.inclusive for _, node in profile.followed.top.walk()}
     every = whole[id(profile.followed.top)] or 1
     left: list[tuple[Node, float, int]] = [(profile.followed.top, 0.0, 0)]
@@ -46,7 +46,7 @@ def boxes(profile: Profile) -> Iterator[Box]:
 
 
 def page(name: str, profile: Profile, difference: Sequence[str]) -> Iterator[str]:
-    """The page, piece by piece."""
+    """Returns the page, piece by piece."""
     drawn = list(boxes(profile))
     return (
         templates()

@@ -46,11 +46,11 @@ class Node:
 
     @property
     def inclusive(self) -> int:
-        """The instructions of it and of all that it calls."""
+        """Returns the instructions of it and of all that it calls."""
         return sum(node.count for _, node in self.walk())
 
     def walk(self) -> "Iterator[tuple[list[Node], Node]]":
-        """Each node of the tree, with the nodes that lead to it, from the top."""
+        """Yields each node of the tree, with the nodes that lead to it, from the top."""
         left: list[tuple[list[Node], Node]] = [([], self)]
         while left:
             path, node = left.pop()
@@ -74,13 +74,13 @@ class Follower:
         self._nodes = 0
 
     def _procedure(self, at: int) -> Procedure:
-        """The procedure of a word, which may be outside memory."""
+        """Returns the procedure of a word, which may be outside memory."""
         if at not in self._known:
             self._known[at] = self._of(at) if at < WORDS else Procedure(WORDS, NO_NAME, NO_MODULE)
         return self._known[at]
 
     def _child(self, node: Node, procedure: Procedure) -> Node:
-        """The node of a procedure that is called from another."""
+        """Returns the node of a procedure that is called from another."""
         if procedure not in node.nodes:
             if self._nodes >= MOST_NODES:
                 return node
@@ -140,7 +140,7 @@ class Follower:
 
 
 def _kind(word: int) -> int:
-    """Whether a word is a call, or a branch to a register's address, or neither."""
+    """Returns whether a word is a call, or a branch to a register's address, or neither."""
     if not is_branch(word) or word >> 24 & 15 == NEVER:
         return 0
     return CALL if word & LINK else 0 if word >> 29 & 1 else TO_REGISTER
@@ -169,28 +169,28 @@ class Profile:
 
     @property
     def instructions(self) -> int:
-        """How many instructions were executed."""
+        """Returns how many instructions were executed."""
         return self.seen.instructions
 
     @property
     def is_whole(self) -> bool:
-        """Whether all instructions were followed."""
+        """Returns whether all instructions were followed."""
         return self.followed.followed == self.instructions
 
     def scaled(self, followed: int) -> int:
-        """How many instructions all of the run has in place of those that were followed."""
+        """Returns how many instructions all of the run has in place of those that were followed."""
         return round(followed * self.instructions / self.followed.followed) if self.followed.followed else 0
 
     def own(self) -> Counter[Procedure]:
-        """The instructions of each procedure."""
+        """Returns the instructions of each procedure."""
         found: Counter[Procedure] = Counter()
         for at, visits in self.seen.visits.items():
             found[self.procedures.of(at)] += visits
         return found
 
     def calls(self) -> dict[tuple[int, Procedure], int]:
-        """How often each call led to each procedure, by its word. Those of a call to a register's address are divided
-        among its targets as they were followed."""
+        """Returns how often each call led to each procedure, by its word. Those of a call to a register's address are
+        divided among its targets as they were followed."""
         found, through = dict[tuple[int, Procedure], int](), Counter[int]()
         for (at, _), number in self.followed.calls.items():
             through[at] += number
@@ -209,15 +209,15 @@ class Profile:
         return found
 
     def edges(self) -> dict[Edge, int]:
-        """How often each procedure calls another."""
+        """Returns how often each procedure calls another."""
         found: Counter[Edge] = Counter()
         for (at, procedure), number in self.calls().items():
             found[self.procedures.of(at), procedure] += number
         return dict(found)
 
     def inclusive(self) -> tuple[Counter[Procedure], Counter[Edge]]:
-        """The instructions of each procedure, and of each call of one by another, with all that they call. A procedure
-        that is in a stack more than once counts once."""
+        """Returns the instructions of each procedure, and of each call of one by another, with all that they call. A
+        procedure that is in a stack more than once counts once."""
         whole, edges = Counter[Procedure](), Counter[Edge]()
         for path, node in self.followed.top.walk():
             chain = [it.procedure for it in [*path, node][1:]]
@@ -231,7 +231,7 @@ class Profile:
         )
 
     def rows(self) -> list[Row]:
-        """The procedures, the one of most instructions first."""
+        """Returns the procedures, the one of most instructions first."""
         own, (whole, _), called = self.own(), self.inclusive(), Counter[Procedure]()
         for (_, procedure), number in self.edges().items():
             called[procedure] += number
@@ -239,14 +239,14 @@ class Profile:
         return sorted(rows, key=lambda it: (-it.own, it.procedure))
 
     def stacks(self) -> Iterator[tuple[list[str], int]]:
-        """The names of each stack of procedures, and its instructions."""
+        """Yields the names of each stack of procedures, and its instructions."""
         for path, node in self.followed.top.walk():
             if count := self.scaled(node.count):
                 yield [it.procedure.name for it in [*path, node][1:]], count
 
 
 def profile_of(run: Run, seen: Executions, first: int, to: int, symbols: Symbols, heard: Callable[[int], None] = ignore) -> Profile:
-    """The profile of a run from a count up to another, of which it is known what is executed."""
+    """Returns the profile of a run from a count up to another, of which it is known what is executed."""
     procedures = Procedures(seen, symbols)
     follower, machine = Follower(procedures, symbols), run.machine(first)
     for stretch in stretches(first, to):
@@ -261,7 +261,7 @@ def profile_of(run: Run, seen: Executions, first: int, to: int, symbols: Symbols
 
 
 def stretches(first: int, to: int) -> Iterator[range]:
-    """The counts that are followed of those from one up to another."""
+    """Yields the counts that are followed of those from one up to another."""
     if to - first <= FOLLOWED:
         yield range(first, to)
         return

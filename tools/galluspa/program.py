@@ -31,24 +31,24 @@ class Answer:
 
     @property
     def line(self) -> str:
-        """The one line of an answer that is a line."""
+        """Returns the one line of an answer that is a line."""
         return self.output.decode("ascii", "replace").rstrip("\n")
 
     @cached_property
     def false_claim(self) -> tuple[int, str] | None:
-        """The first false checkpoint and its first false part, if the line names them."""
+        """Returns the first false checkpoint and its first false part, if the line names them."""
         match = _FALSE_LINE.fullmatch(self.line) if self.status == FALSE else None
         return (int(match[1]), match[2]) if match else None
 
     @cached_property
     def fault(self) -> tuple[int, int] | None:
-        """The number of a recording's first fault and its byte, if the line names them."""
+        """Returns the number of a recording's first fault and its byte, if the line names them."""
         match = _REFUSED_LINE.fullmatch(self.line) if self.status == REFUSED else None
         return (int(match[1]), int(match[2])) if match else None
 
     @cached_property
     def session_fault(self) -> int | None:
-        """The number of a session's first fault, if the line names it."""
+        """Returns the number of a session's first fault, if the line names it."""
         match = _SESSION_LINE.fullmatch(self.line) if self.status == REFUSED else None
         return int(match[1]) if match else None
 
@@ -62,7 +62,8 @@ class Program:
 
     @staticmethod
     def find(given: str | None, limit: Limit | None = None) -> "Program":
-        """The program that was given, or else the one that was built in this clone, or installed with these tools."""
+        """Returns the program that was given, or else the one that was built in this clone, or installed with these
+        tools."""
         path = Path(given) if given else places.program()
         if not path:
             raise Refused(
@@ -73,12 +74,12 @@ class Program:
         return Program(path.resolve(), limit)
 
     def check(self, text: bytes, workers: int | None = None) -> Answer:
-        """The line of a recording, and whether it was accepted, false or refused; by so many workers, if that is
-        said."""
+        """Returns the line of a recording, and whether it was accepted, false or refused; by so many workers, if that
+        is said."""
         return self._ask(*_checking(workers), given=text)
 
     def check_file(self, path: Path, workers: int) -> Answer:
-        """The line of the recording in a file, by so many workers."""
+        """Returns the line of the recording in a file, by so many workers."""
         try:
             with path.open("rb") as file:
                 return self._ask(*_checking(workers), given=file)
@@ -86,15 +87,15 @@ class Program:
             raise Refused(f"{path}: {error.strerror}") from error
 
     def screen(self, text: bytes, checkpoint: int) -> Answer:
-        """The picture of what a checkpoint claims, or the line that refuses the text."""
+        """Returns the picture of what a checkpoint claims, or the line that refuses the text."""
         return self._ask("screen", "--at", str(checkpoint), given=text)
 
     def record(self, session: bytes) -> Answer:
-        """The recording of a session, or the line that refuses it."""
+        """Returns the recording of a session, or the line that refuses it."""
         return self._ask("record", given=session)
 
     def answer(self, words: Sequence[str], given: bytes | BinaryIO) -> Answer:
-        """What the program answers to any arguments and any input."""
+        """Returns what the program answers to any arguments and any input."""
         try:
             ended = children.output_of([self.path, *words], given, limit=self.limit, most=MOST)
         except OSError as error:

@@ -99,27 +99,27 @@ class Recording:
 
     @property
     def pages(self) -> int:
-        """How many pages the pool has."""
+        """Returns how many pages the pool has."""
         return len(self.pool) // PAGE_BYTES
 
     def page(self, number: int) -> bytes:
-        """The content of a page by its number; number 0 is the page of zeros."""
+        """Returns the content of a page by its number; number 0 is the page of zeros."""
         return bytes(self.pool[(number - 1) * PAGE_BYTES : number * PAGE_BYTES]) if number else NO_PAGE
 
     def memory(self, checkpoint: Checkpoint, start: int, end: int) -> bytes:
-        """The claimed bytes of memory from one byte address up to another."""
+        """Returns the claimed bytes of memory from one byte address up to another."""
         first = start // PAGE_BYTES
         numbers = checkpoint.table[first : -(-end // PAGE_BYTES)]
         content = b"".join(map(self.page, numbers))
         return content[start - first * PAGE_BYTES : end - first * PAGE_BYTES]
 
     def word(self, checkpoint: Checkpoint, number: int) -> int:
-        """A claimed word of memory, by its number below 262,144."""
+        """Returns a claimed word of memory, by its number below 262,144."""
         page = self.page(checkpoint.table[number // WORDS_IN_PAGE])
         return struct.unpack_from("<I", page, number % WORDS_IN_PAGE * 4)[0]
 
     def changed_slots(self, before: Checkpoint, after: Checkpoint) -> list[int]:
-        """The page slots whose content is another at one checkpoint than at another."""
+        """Returns the page slots whose content is another at one checkpoint than at another."""
         if before.table == after.table:
             return []
         pairs = zip(before.table, after.table)
@@ -127,7 +127,7 @@ class Recording:
 
 
 def lawful(program: Program, name: str, text: bytes) -> Recording:
-    """The recording of a text that the program finds lawful; its line is the refusal if it doesn't."""
+    """Returns the recording of a text that the program finds lawful; its line is the refusal if it doesn't."""
     answer = program.screen(text, 0)
     if answer.status == REFUSED:
         raise Refused(f"{name}: {answer.line}")
@@ -135,7 +135,7 @@ def lawful(program: Program, name: str, text: bytes) -> Recording:
 
 
 def read(text: bytes) -> Recording:
-    """The recording of a lawful text."""
+    """Returns the recording of a lawful text."""
     try:
         return _read(text)
     except (struct.error, IndexError, ValueError) as error:
@@ -194,7 +194,7 @@ def _words(text: bytes) -> array:
 
 
 def _changed(table: array, changes: array) -> array:
-    """The table that comes of one by changes: pairs of a page slot and its new page id."""
+    """Returns the table that comes of one by changes: pairs of a page slot and its new page id."""
     if not changes:
         return table
     after = table[:]
@@ -234,17 +234,17 @@ def write(recording: Recording) -> bytes:
 
 
 def page_of(*words: int) -> bytes:
-    """The content of a page that begins with these words, and is 0 after them."""
+    """Returns the content of a page that begins with these words, and is 0 after them."""
     return _bytes(words).ljust(PAGE_BYTES, b"\0")
 
 
 def table_of(pages: Mapping[int, int]) -> array:
-    """The table that has these page ids in these slots, and 0 in all others."""
+    """Returns the table that has these page ids in these slots, and 0 in all others."""
     return array("I", [pages.get(slot, 0) for slot in range(PLACES)])
 
 
 def of_display(checkpoint: Checkpoint, pages: bytes) -> bytes:
-    """The text of a recording of one state, that of a checkpoint, whose memory is 0 but for the pages from the
+    """Returns the text of a recording of one state, that of a checkpoint, whose memory is 0 but for the pages from the
     display's on."""
     number = len(pages) // PAGE_BYTES
     table = table_of({PLACES - number + at: at + 1 for at in range(number)})
@@ -253,14 +253,14 @@ def of_display(checkpoint: Checkpoint, pages: bytes) -> bytes:
 
 
 def _fixed_fields(checkpoint: Checkpoint) -> bytes:
-    """The fields of both versions."""
+    """Returns the fields of both versions."""
     it = checkpoint
     words = (getattr(it, name) for name in STATE_WORDS)
     return _FIXED.pack(it.count, *it.registers, *words, len(it.keys), it.keys, len(it.output))
 
 
 def _memory_fields(version: int, checkpoint: Checkpoint, before: array) -> bytes:
-    """The whole table; or rate, phase and the changes of the table before."""
+    """Returns the whole table; or rate, phase and the changes of the table before."""
     after = checkpoint.table
     if version == 1:
         return _bytes(after)

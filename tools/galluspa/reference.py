@@ -60,7 +60,7 @@ TEXT = Path(__file__).parent / "reference.md.in"
 
 
 def reference() -> str:
-    """The page."""
+    """Returns the page."""
     text = TEXT.read_text(encoding="utf-8")
     tables = {"@DEVICES@": _devices(), "@INSTRUCTIONS@": _instructions(), "@OTHERS@": _others()}
     for name, rows in tables.items():
@@ -79,7 +79,7 @@ def _others() -> Iterator[str]:
 
 
 def _instructions() -> Iterator[str]:
-    """A row for each example, at word 100."""
+    """Yields a row for each example, at word 100."""
     for example in EXAMPLES:
         word = word_of(example)
         meaning = instruction(word, 100).meaning

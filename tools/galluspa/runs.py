@@ -44,7 +44,7 @@ class Change:
 
 
 def run_of(outcomes: Sequence[Outcome]) -> Run:
-    """What is kept of a run, by the names of the recordings."""
+    """Returns what is kept of a run, by the names of the recordings."""
 
     def kept(it: Outcome) -> Kept:
         return Kept(_digest(it.case), it.case.expected, it.answered, round(it.seconds, 3))
@@ -60,13 +60,13 @@ def _digest(case: Case) -> str:
 
 
 def text_of(kept: Run) -> str:
-    """A run as JSON."""
+    """Returns a run as JSON."""
     recordings = {name: asdict(it) for name, it in kept.items()}
     return json.dumps({"format": FORMAT, "version": 1, "recordings": recordings}, indent=2) + "\n"
 
 
 def read_run(path: str) -> Run:
-    """The run that a file keeps."""
+    """Returns the run that a file keeps."""
     try:
         kept = json.loads(read_file(path))
         if kept["format"] != FORMAT or kept["version"] != 1:
@@ -82,14 +82,14 @@ def _kept(sha256: object, expected: object, answered: object, seconds: object) -
 
 
 def _text(value: object) -> str:
-    """A text of a kept run, as it can be shown."""
+    """Returns a text of a kept run, as it can be shown."""
     if not isinstance(value, str) or len(value) > LONGEST:
         raise TypeError
     return printable(value)
 
 
 def _seconds(value: object) -> float:
-    """A time of a kept run."""
+    """Returns a time of a kept run."""
     if isinstance(value, bool) or not isinstance(value, int | float):
         raise TypeError
     if not 0 <= value <= MOST_SECONDS or math.isnan(value):
@@ -98,7 +98,7 @@ def _seconds(value: object) -> float:
 
 
 def changes(before: Run, after: Run) -> list[Change]:
-    """What is another in a later run: answers first, then recordings that came and went, then times."""
+    """Returns what is another in a later run: answers first, then recordings that came and went, then times."""
     both = [(name, before[name], it) for name, it in after.items() if name in before]
     return [
         *(Change("changed", name, _told_change(old, new)) for name, old, new in both if old.answered != new.answered),
@@ -127,7 +127,7 @@ def _is_slower(old: Kept, new: Kept) -> bool:
 
 
 def junit(suite: str, outcomes: Sequence[Outcome]) -> bytes:
-    """A run as the XML that JUnit writes and CI systems read."""
+    """Returns a run as the XML that JUnit writes and CI systems read."""
     seconds = f"{sum(it.seconds for it in outcomes):.3f}"
     errors = sum(it.is_error for it in outcomes)
     wrong = sum(not it.is_ok for it in outcomes) - errors
@@ -154,5 +154,5 @@ def junit(suite: str, outcomes: Sequence[Outcome]) -> bytes:
 
 
 def _in_xml(text: str) -> str:
-    """A text in one line, without the signs that XML can't hold."""
+    """Returns a text in one line, without the signs that XML can't hold."""
     return NOT_IN_XML.sub("\ufffd", printable(text))

@@ -49,18 +49,18 @@ class Broken:
     rule: str
 
     def plain(self) -> Iterator[str]:
-        """The lines that say it."""
+        """Yields the lines that say it."""
         yield printable(f"{self.member} {self.found}")
         yield f"rule   {self.rule}"
 
 
 def is_session(name: str, text: bytes) -> bool:
-    """Whether a file is looked at as a session, and not as a recording."""
+    """Returns whether a file is looked at as a session, and not as a recording."""
     return not text.startswith(b"ORSR") and (text[:4096].lstrip()[:1] == b"{" or name.endswith(".json"))
 
 
 def explain_session(text: bytes, answer: Answer) -> Iterator[str]:
-    """The lines that explain what the program answers to a session."""
+    """Yields the lines that explain what the program answers to a session."""
     if answer.status == ACCEPTED:
         yield f"the session breaks no rule: its recording has {len(answer.output):,} bytes"
         return
@@ -73,7 +73,7 @@ def explain_session(text: bytes, answer: Answer) -> Iterator[str]:
 
 
 def explained(text: bytes, fault: int) -> Broken:
-    """The first member of a session that breaks the rules of a fault, by its number."""
+    """Returns the first member of a session that breaks the rules of a fault, by its number."""
     whole = Broken("the session", "breaks it", NAMES[fault])
     if len(text) > LONGEST_SESSION:
         return Broken("the session", "has more bytes than that", f"a session has at most {LONGEST_SESSION:,} bytes")
@@ -85,8 +85,8 @@ def explained(text: bytes, fault: int) -> Broken:
 
 
 def parsed(text: bytes) -> Any:
-    """What a session is as JSON, of any shape, or why it is none: numbers that no session has are floats, as to the
-    program."""
+    """Returns what a session is as JSON, of any shape, or why it is none: numbers that no session has are floats, as to
+    the program."""
     for sign, (most, name) in SIGNS.items():
         if (number := text.count(sign.encode())) > most:
             return Broken("the session", f"has {number:,} {name}", f"a session has at most {most:,} {name}")
@@ -109,7 +109,7 @@ def _where(signs: str, at: int) -> str:
 
 
 def _too_deep(signs: str) -> int | None:
-    """Where arrays and objects nest too deep."""
+    """Returns where arrays and objects nest too deep."""
     depth = 0
     for token in TOKEN.finditer(signs):
         depth += {"[": 1, "{": 1, "]": -1, "}": -1}.get(token[0], 0)
@@ -136,13 +136,13 @@ def _is_number(value: object) -> bool:
 
 
 def _typed(member: str, value: object, kind: type, name: str) -> Iterator[Broken]:
-    """A member that is of no kind that it has to be."""
+    """Yields a member that is of no kind that it has to be."""
     if type(value) is not kind:
         yield Broken(member, _shown(value), f"it is {name}")
 
 
 def _members(member: str, value: Any, names: Sequence[str]) -> Iterator[Broken]:
-    """An object that has not exactly these members."""
+    """Yields an object that has not exactly these members."""
     yield from _typed(member, value, dict, "an object")
     rule = f"{member} has exactly the members {', '.join(names)}"
     yield from (Broken(member, f"lacks {name}", rule) for name in names if name not in value)

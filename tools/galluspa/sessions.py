@@ -3,12 +3,11 @@
 import csv
 import io
 import json
-from collections.abc import Sequence
-from dataclasses import dataclass, field, replace
+from dataclasses import dataclass, field
 from pathlib import Path
 
 from galluspa.command import Refused, number, read_file
-from galluspa.recording import FLAGS, KINDS, PAGE_BYTES, PLACES, Checkpoint, Event, Recording
+from galluspa.recording import FLAGS, KINDS, PAGE_BYTES, PLACES, Event, Recording
 from galluspa.states import REGISTERS
 
 MEMORY_BYTES = PLACES * PAGE_BYTES
@@ -16,7 +15,6 @@ COUNTS = 1 << 40
 INPUTS = 1_000_000
 CHECKPOINTS = 4096
 MOUSE = 0x073FF3FF
-RECEIVED = 1 << 8
 KIND_NUMBERS = {name: kind for kind, name in KINDS.items()}
 MOST = {"timer": 0xFFFFFFFF, "switches": 0xFFF, "mouse": MOUSE, "key": 0xFF, "serial": 0xFF}
 
@@ -36,7 +34,7 @@ class Session:
     checkpoints: list[int] = field(default_factory=list)
 
     def text(self) -> str:
-        """The session as JSON, a page and a few inputs in each line."""
+        """Returns the session as JSON, a page and a few inputs in each line."""
         counting = {"rate": self.rate, "phase": self.phase} if self.rate else {}
         start = {"R": self.registers, "H": self.h, "PC": self.pc, "flags": self.flags, **counting}
         inputs = [json.dumps([event.count, KINDS[event.kind], event.value]) for event in self.inputs]
@@ -55,7 +53,7 @@ class Session:
 
 
 def _pages(memory: bytes) -> list[str]:
-    """The pages of a memory that have a byte other than 0, without the zeros at their ends."""
+    """Returns the pages of a memory that have a byte other than 0, without the zeros at their ends."""
     pages = ((at, memory[at * PAGE_BYTES : (at + 1) * PAGE_BYTES].rstrip(b"\0")) for at in range(PLACES))
     return [json.dumps({"at": at, "hex": content.hex()}) for at, content in pages if content]
 
@@ -68,7 +66,8 @@ def _rows(items: list[str], in_row: int) -> str:
 
 
 def of_recording(name: str, read: Recording) -> Session:
-    """The session of a recording's initial state, inputs and counts; refused if no session can say that state."""
+    """Returns the session of a recording's initial state, inputs and counts. Raises Refused if no session can say that
+    state."""
     first, *later = read.checkpoints
     inexpressible = [
         what
@@ -99,35 +98,8 @@ def of_recording(name: str, read: Recording) -> Session:
     )
 
 
-def session_from(state: Checkpoint, memory: bytes, inputs: Sequence[Event], number: int) -> Session | None:
-    """The session that goes on from a state and a memory, with the inputs from its count on, and has a checkpoint after
-    each of so many instructions; its counts begin at 0. Devices get their values by inputs before the first
-    instruction. The LEDs are left out. None if a session cannot say the state: the serial line has a byte that was
-    read already, the machine has stopped, or there are too many inputs."""
-    if state.stop or 0 < state.serial < RECEIVED:
-        return None
-    devices = {"timer": state.timer, "switches": state.switches, "mouse": state.mouse}
-    first = [(KIND_NUMBERS[name], value) for name, value in devices.items() if value]
-    first += [(KIND_NUMBERS["key"], key) for key in state.keys]
-    first += [(KIND_NUMBERS["serial"], state.serial - RECEIVED)] if state.serial else []
-    later = [replace(event, count=event.count - state.count) for event in inputs]
-    if len(first) + len(later) > INPUTS:
-        return None
-    return Session(
-        registers=list(state.registers),
-        h=state.h,
-        pc=state.pc,
-        flags=state.flags,
-        rate=state.rate,
-        phase=state.phase,
-        memory=memory,
-        inputs=[*(Event(0, kind, value) for kind, value in first), *later],
-        checkpoints=list(range(1, number + 1)),
-    )
-
-
 def image_at(name: str, image: bytes, address: int) -> bytes:
-    """A memory that begins with zeros and has an image from a byte address on."""
+    """Returns a memory that begins with zeros and has an image from a byte address on."""
     if address + len(image) > MEMORY_BYTES:
         raise Refused(f"{name}: {len(image):,} bytes from {address:X} on go beyond the memory of {MEMORY_BYTES:,} bytes")
     return bytes(address) + image
@@ -157,7 +129,8 @@ def check_phase(session: Session) -> None:
 
 
 def inputs_of(path: Path) -> list[Event]:
-    """The inputs of a CSV file with the columns count, kind, value; a first row of these names is passed over."""
+    """Returns the inputs of a CSV file with the columns count, kind, value; a first row of these names is passed
+    over."""
     content, inputs = read_file(path), list[Event]()
     try:
         rows = csv.reader(io.StringIO(content.decode("utf-8-sig"), newline=""))

@@ -24,7 +24,8 @@ from galluspa.statements import (
     content,
     is_string,
 )
-from galluspa.tokens import Wrong
+from galluspa.language import note
+from galluspa.tokens import wrong
 
 WORD = 0xFFFFFFFF
 
@@ -46,7 +47,7 @@ class Settings:
 
 
 def settings_of(it: Assembly) -> Settings:
-    """What a source says of its session; what is wrong with it joins the problems of the source."""
+    """Returns what a source says of its session; what is wrong with it joins the problems of the source."""
     made = Settings()
     instructions = (statement.here for statement in it.statements if statement.does == INSTRUCTION)
     made.session.pc = next(instructions, 0) // 4
@@ -69,21 +70,20 @@ def set_checkpoints(it: Assembly, settings: Settings, end: int | None) -> None:
     if max(number, len(counts)) > MOST_CHECKPOINTS:
         statement = settings.every or next(one for one in it.statements if one.does == CHECKPOINTS)
         with it.keeping(statement.line):
-            raise Wrong(statement.name.column, f"a session has at most {MOST_CHECKPOINTS:,} checkpoints")
+            raise wrong(statement.name.column, "tooMany", most=MOST_CHECKPOINTS)
     settings.session.checkpoints = sorted(counts)
 
 
 def notes_of(settings: Settings) -> Iterator[Problem]:
-    """What is lawful in a session with its checkpoints, and may surprise: that it has none, or that inputs come too
+    """Yields what is lawful in a session with its checkpoints, and may surprise: that it has none, or that inputs come too
     late for the last of them."""
     counts = settings.session.checkpoints
     if not counts:
-        yield Problem(1, 1, "note: no checkpoint, so a recording runs no instruction: add every, until or checkpoints")
+        yield Problem(1, 1, note("noCheckpoint"))
         return
     late = [statement for count, statement in settings.inputs if count >= counts[-1]]
     if late:
-        which = f"this input and {len(late) - 1:,} after it never come" if len(late) > 1 else "this input never comes"
-        text = f"note: {which}: the last checkpoint is at {counts[-1]:,}, and ends the run"
+        text = note("lateOnes" if len(late) > 1 else "late", more=len(late) - 1, count=counts[-1])
         yield Problem(late[0].line, late[0].name.column, text)
 
 
@@ -93,20 +93,20 @@ def _check(it: Assembly, made: Settings) -> None:
     if session.phase >= max(session.rate, 1):
         line, column = next(((one.line, one.name.column) for one in it.statements if one.does == PHASE), (1, 1))
         with it.keeping(line):
-            raise Wrong(column, f"phase {session.phase:,} is not below the rate {session.rate:,}, or 0 if that is 0")
+            raise wrong(column, "phase", phase=session.phase, rate=session.rate)
     if made.every and not made.last and not made.until:
         with it.keeping(made.every.line):
-            raise Wrong(made.every.name.column, "every needs an end: every N, LAST, or a line with until")
+            raise wrong(made.every.name.column, "everyEnd")
     if len(session.inputs) > INPUTS:
         line, column = next((one.line, one.name.column) for one in it.statements if one.does == INPUT)
         with it.keeping(line):
-            raise Wrong(column, f"{len(session.inputs):,} inputs; a session has at most {INPUTS:,}")
+            raise wrong(column, "inputs", number=len(session.inputs), most=INPUTS)
 
 
 def _bounded(it: Assembly, statement: Statement, argument: Argument, least: int, most: int, what: str) -> int:
     number = it.value(argument, statement.here).number
     if not least <= number <= most:
-        raise Wrong(argument.column, f"{what} {number:,} is not from {least:,} to {most:,}")
+        raise wrong(argument.column, "range", what=what, number=number, least=least, most=most, advice="")
     return number
 
 
@@ -114,7 +114,7 @@ def _start(it: Assembly, made: Settings, statement: Statement) -> None:
     argument = only(statement)
     at = _bounded(it, statement, argument, 0, MEMORY_BYTES - 1, "the byte address")
     if at % 4:
-        raise Wrong(argument.column, f"the start {at:X}H is not a multiple of 4")
+        raise wrong(argument.column, "start", number=at)
     made.session.pc = at // 4
 
 
@@ -122,7 +122,7 @@ def _set(it: Assembly, made: Settings, statement: Statement) -> None:
     """Sets a register to a word, or flags by their letters."""
     argument = only(statement)
     if len(argument.tokens) < 3 or not argument.tokens[1].is_mark("="):
-        raise Wrong(argument.column, "set needs a register or flags, an equals sign and a value")
+        raise wrong(argument.column, "set")
     name, value = argument.tokens[0], Argument(argument.tokens[2:], argument.end)
     if name.text.lower() == "flags":
         made.session.flags = _flags(value)
@@ -133,13 +133,13 @@ def _set(it: Assembly, made: Settings, statement: Statement) -> None:
     elif name.text.upper() == "H":
         made.session.h = number
     else:
-        raise Wrong(name.column, f"{name.text} is none of R0 to R15, H and flags")
+        raise wrong(name.column, "setName", name=name.text)
 
 
 def _flags(value: Argument) -> int:
     letters = value.text.upper()
     if not set(letters) <= set(FLAGS):
-        raise Wrong(value.column, f"{value.text} is not made of the letters {FLAGS}")
+        raise wrong(value.column, "flags", text=value.text, letters=FLAGS)
     return sum(8 >> FLAGS.index(letter) for letter in set(letters))
 
 
@@ -154,26 +154,26 @@ def _phase(it: Assembly, made: Settings, statement: Statement) -> None:
 def _input(it: Assembly, made: Settings, statement: Statement) -> None:
     """Adds an input, or one for each byte of a string."""
     if len(statement.arguments) != 3:
-        raise Wrong(statement.name.column, "input needs a count, a kind and a value")
+        raise wrong(statement.name.column, "input")
     count, kind, value = statement.arguments
     least = made.session.inputs[-1].count if made.session.inputs else 0
     at = _bounded(it, statement, count, least, COUNTS, "the count")
     made.inputs.append((at, statement))
     name = kind.text.lower()
     if name not in KIND_NUMBERS:
-        raise Wrong(kind.column, f"{kind.text} is none of {', '.join(MOST)}")
+        raise wrong(kind.column, "kind", name=kind.text, names=", ".join(MOST))
     if is_string(value) and name in ("key", "serial"):
         made.session.inputs += [Event(at, KIND_NUMBERS[name], byte) for byte in content(value)]
         return
     number = _bounded(it, statement, value, 0, MOST[name], f"the value for {name}")
     if name == "mouse" and number & ~MOUSE:
-        raise Wrong(value.column, f"{number:X}H has bits outside the mask {MOUSE:08X}H of the mouse")
+        raise wrong(value.column, "mask", number=number, mask=f"{MOUSE:08X}")
     made.session.inputs.append(Event(at, KIND_NUMBERS[name], number))
 
 
 def _checkpoints(it: Assembly, made: Settings, statement: Statement) -> None:
     if not statement.arguments:
-        raise Wrong(statement.name.column, "checkpoints needs counts")
+        raise wrong(statement.name.column, "checkpoints")
     for argument in statement.arguments:
         made.counts.add(_bounded(it, statement, argument, 1, COUNTS, "the count"))
 
@@ -181,7 +181,7 @@ def _checkpoints(it: Assembly, made: Settings, statement: Statement) -> None:
 def _every(it: Assembly, made: Settings, statement: Statement) -> None:
     _once(it, made.every, statement)
     if not 1 <= len(statement.arguments) <= 2:
-        raise Wrong(statement.name.column, "every needs a number of instructions, and perhaps the last count")
+        raise wrong(statement.name.column, "every")
     step, *last = [_bounded(it, statement, one, 1, COUNTS, "the count") for one in statement.arguments]
     made.every, made.step, made.last = statement, step, last[0] if last else 0
 
@@ -190,7 +190,7 @@ def _until(it: Assembly, made: Settings, statement: Statement) -> None:
     _once(it, made.until, statement)
     made.until = statement
     if not 1 <= len(statement.arguments) <= 2 or statement.arguments[0].text.lower() not in endings.ENDS:
-        raise Wrong(statement.name.column, "until needs stops or loops, and perhaps the most instructions to try")
+        raise wrong(statement.name.column, "until")
     made.end = statement.arguments[0].text.lower()
     for most in statement.arguments[1:]:
         made.most = _bounded(it, statement, most, 1, COUNTS, "the count")
@@ -199,7 +199,7 @@ def _until(it: Assembly, made: Settings, statement: Statement) -> None:
 def _once(it: Assembly, before: Statement | None, statement: Statement) -> None:
     if before:
         where = it.line_text(before.line, statement.line)
-        raise Wrong(statement.name.column, f"{statement.name.text} is in {where} already")
+        raise wrong(statement.name.column, "again", name=statement.name.text, where=where)
 
 
 SETTERS: dict[str, Callable[[Assembly, Settings, Statement], None]] = {

@@ -24,12 +24,13 @@ class SourceLine:
 
 
 def lines_of(text: str, file: str = "") -> list[SourceLine]:
-    """The lines of a text, which includes nothing."""
+    """Returns the lines of a text, which includes nothing."""
     return [SourceLine(file, number, line) for number, line in enumerate(text.split("\n"), 1)]
 
 
 def read_sources(paths: Sequence[Path]) -> list[SourceLine]:
-    """The lines of files, one file after the other, each with those of the files that it includes in their place."""
+    """Returns the lines of files, one file after the other, each with those of the files that it includes in their
+    place."""
     return [line for reader in [_Reader()] for path in paths for line in reader.lines(path, [])]
 
 
@@ -41,7 +42,7 @@ class _Reader:
         self._included = 0
 
     def lines(self, path: Path, outer: Sequence[Path]) -> Iterator[SourceLine]:
-        """The lines of a file that is included by others, of which the outermost comes first."""
+        """Yields the lines of a file that is included by others, of which the outermost comes first."""
         for line in lines_of(self._text(path), str(path)):
             found = INCLUDE.fullmatch(line.text)
             if not found:

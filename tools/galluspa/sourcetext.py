@@ -18,18 +18,18 @@ class Sources:
         self._read: dict[str, list[str]] = {}
 
     def lines(self, name: str) -> Sequence[str]:
-        """The lines of a source; none if it is not there, or is no text of a proper size."""
+        """Returns the lines of a source; none if it is not there, or is no text of a proper size."""
         if name not in self._read:
             self._read[name] = next(filter(None, (_lines(folder / name) for folder in self._folders)), [])
         return self._read[name]
 
     def line(self, source: Source | None) -> str:
-        """A line of a source after its number, as it is shown; nothing if it is not there."""
+        """Returns a line of a source after its number, as it is shown; nothing if it is not there."""
         found = self.lines(source.file) if source else []
         return _numbered(found, source.line) if source and source.line <= len(found) else ""
 
     def around(self, source: Source, first: int, number: int) -> Sequence[str]:
-        """So many lines of a source, from one on, with a mark at one of them."""
+        """Returns so many lines of a source, from one on, with a mark at one of them."""
         found = self.lines(source.file)
         numbers = range(max(first, 1), min(max(first, 1) + number, len(found) + 1))
         return [f"{'=>' if at == source.line else '  '}{_numbered(found, at)}" for at in numbers]
@@ -40,7 +40,7 @@ def _numbered(lines: Sequence[str], number: int) -> str:
 
 
 def _lines(path: Path) -> list[str]:
-    """The lines of a file that is a text of a proper size."""
+    """Returns the lines of a file that is a text of a proper size."""
     try:
         about = path.stat()
         if not stat.S_ISREG(about.st_mode) or about.st_size > MOST_BYTES:

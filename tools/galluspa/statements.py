@@ -3,24 +3,15 @@
 from collections.abc import Sequence
 from dataclasses import dataclass
 
+from galluspa.language import LANGUAGE, advice
 from galluspa.mnemonics import MNEMONICS
 from galluspa.others import are_alike, here_of
-from galluspa.tokens import Kind, Token, Wrong, tokens_of
+from galluspa.tokens import Kind, Token, tokens_of, wrong
 
-CONSTANT, INSTRUCTION, ORIGIN, OFFSETS = "=", "instruction", "origin", "offsets"
-WORD, BYTE, STRING = "word", "byte", "string"
-INCLUDE = "include"
-START, SET, RATE, PHASE, INPUT, CHECKPOINTS, EVERY, UNTIL = SETTINGS = (
-    "start",
-    "set",
-    "rate",
-    "phase",
-    "input",
-    "checkpoints",
-    "every",
-    "until",
-)
-DIRECTIVES = frozenset((ORIGIN, OFFSETS, WORD, BYTE, STRING, INCLUDE, *SETTINGS))
+CONSTANT, INSTRUCTION = "=", "instruction"
+ORIGIN, OFFSETS, WORD, BYTE, STRING, INCLUDE = LAYING = tuple[str, ...](LANGUAGE["directives"])
+START, SET, RATE, PHASE, INPUT, CHECKPOINTS, EVERY, UNTIL = SETTINGS = tuple[str, ...](LANGUAGE["settings"])
+DIRECTIVES = frozenset((*LAYING, *SETTINGS))
 # What a statement may be meant to begin with, in the order in which it is suggested.
 _FIRST_WORDS = (*sorted(MNEMONICS), *sorted(DIRECTIVES))
 
@@ -73,17 +64,17 @@ class Statement:
 
 
 def is_string(argument: Argument) -> bool:
-    """Whether an argument is one string."""
+    """Returns whether an argument is one string."""
     return len(argument.tokens) == 1 and argument.tokens[0].kind is Kind.STRING
 
 
 def content(argument: Argument) -> bytes:
-    """The bytes of an argument that is a string."""
+    """Returns the bytes of an argument that is a string."""
     return argument.tokens[0].content
 
 
 def statement_of(line: int, source: str) -> Statement:
-    """The statement of a line."""
+    """Returns the statement of a line."""
     tokens, labels = tokens_of(source), list[Token]()
     at = 0
     while at + 1 < len(tokens) and tokens[at].kind is Kind.NAME and tokens[at + 1].is_mark(":"):
@@ -94,10 +85,10 @@ def statement_of(line: int, source: str) -> Statement:
         return Statement(line, source, labels)
     name, rest, end = tokens[0], tokens[1:], tokens[-1].column + len(tokens[-1].text)
     if name.kind is not Kind.NAME:
-        raise Wrong(name.column, f"{name.text} begins no statement")
+        raise wrong(name.column, "begins", text=name.text)
     if rest and rest[0].is_mark("="):
         if labels:
-            raise Wrong(labels[0].column, "a constant has no label")
+            raise wrong(labels[0].column, "constantLabel")
         return Statement(line, source, [], name, CONSTANT, [Argument(rest[1:], end)])
     return Statement(line, source, labels, name, _what(name, rest), _arguments(rest, end))
 
@@ -111,12 +102,12 @@ def _what(name: Token, rest: Sequence[Token]) -> str:
     if not here and rest and rest[0].text.upper() == "EQU":
         here = f"{name.text} = VALUE"
     meant = next((other for other in _FIRST_WORDS if rest and are_alike(name.text, other)), "")
-    advice = f": write {here}" if here else f": did you mean {meant}?" if meant else "; a label ends with a colon"
-    raise Wrong(name.column, f"{name.text} is neither an instruction nor a directive{advice}")
+    said = advice("elsewhere", here=here) if here else advice("meant", meant=meant) if meant else advice("label")
+    raise wrong(name.column, "statement", name=name.text, advice=said)
 
 
 def _arguments(tokens: Sequence[Token], end: int) -> list[Argument]:
-    """What is between commas; nothing, if nothing is written."""
+    """Returns what is between commas; nothing, if nothing is written."""
     if not tokens:
         return []
     arguments, begin = [], 0

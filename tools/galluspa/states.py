@@ -1,7 +1,10 @@
 """Prints the parts of a claimed state, and what changed from one checkpoint to the next."""
 
-from collections.abc import Iterator
+from collections.abc import Callable, Iterator, Mapping
 from dataclasses import dataclass
+from functools import lru_cache
+from operator import attrgetter
+from typing import Any
 
 from galluspa.recording import FLAGS, KINDS, PLACES, STOPS, Checkpoint, Event
 
@@ -44,6 +47,11 @@ def values(checkpoint: Checkpoint) -> dict[str, int | list[int]]:
     }
 
 
+def differing(one: Mapping[str, int | list[int]], other: Mapping[str, int | list[int]]) -> list[str]:
+    """The names of all parts that both of two states show and in which they differ, in the order of the first."""
+    return [name for name, value in one.items() if name in other and other[name] != value]
+
+
 def value(name: str, number: int | list[int]) -> str:
     """A part of a state, by its name and its number or numbers, as it is written."""
     if isinstance(number, list):
@@ -71,20 +79,24 @@ def others(checkpoint: Checkpoint, before: Checkpoint | None, version: int) -> l
 
 
 def _others(checkpoint: Checkpoint) -> Iterator[tuple[str, str]]:
-    yield "H", f"{checkpoint.h:08X}"
-    yield "PC", f"{checkpoint.pc}"
-    yield "flags", flags(checkpoint.flags)
-    yield "stop", STOPS[checkpoint.stop] if checkpoint.stop < len(STOPS) else f"{checkpoint.stop}"
-    yield "timer", f"{checkpoint.timer}"
-    yield "rate", f"{checkpoint.rate}"
-    yield "phase", f"{checkpoint.phase}"
-    yield "switches", f"{checkpoint.switches:03X}"
-    yield "LEDs", f"{checkpoint.leds:02X}"
-    yield "mouse", mouse(checkpoint.mouse)
-    yield "serial", f"{checkpoint.serial & 0xFF:02X}" + (", received" if checkpoint.serial >> 8 else "")
-    yield "keys", checkpoint.keys.hex(" ").upper() or "none"
+    for name, (attribute, text) in TEXTS.items():
+        yield name, text(getattr(checkpoint, attribute))
 
 
+def changes(before: Checkpoint, after: Checkpoint) -> Iterator[tuple[str, str, str]]:
+    """Yields the parts of a state but for its memory that are others in a later one: their names, and both as they are
+    written."""
+    if before.registers != after.registers:
+        for name, old, new in zip(REGISTERS, before.registers, after.registers, strict=True):
+            if old != new:
+                yield name, f"{old:08X}", f"{new:08X}"
+    for name, old, new in zip(TEXTS, _OTHERS(before), _OTHERS(after), strict=True):
+        if old != new:
+            text = TEXTS[name][1]
+            yield name, text(old), text(new)
+
+
+@lru_cache(16)
 def flags(value: int) -> str:
     """The letters of the flags that are set, with a dash for each that is not."""
     return "".join(letter if value >> 3 - at & 1 else "-" for at, letter in enumerate(FLAGS))
@@ -94,6 +106,34 @@ def mouse(value: int) -> str:
     """A mouse word as its x and y, and its three keys as they lie."""
     x, y, keys = value & 0x3FF, value >> 12 & 0x3FF, value >> 24 & 7
     return f"{x}, {y}" + (f", keys {keys:03b}" if keys else "")
+
+
+def _stop(value: int) -> str:
+    return STOPS[value] if value < len(STOPS) else f"{value}"
+
+
+def _serial(value: int) -> str:
+    return f"{value & 0xFF:02X}" + (", received" if value >> 8 else "")
+
+
+def _keys(codes: bytes) -> str:
+    return codes.hex(" ").upper() or "none"
+
+
+# The attributes here of all parts but the registers, and how they are written.
+TEXTS: dict[str, tuple[str, Callable[[Any], str]]] = {
+    "H": ("h", "{:08X}".format),
+    "PC": ("pc", str),
+    "flags": ("flags", flags),
+    "stop": ("stop", _stop),
+    **{name: (name, str) for name in ("timer", "rate", "phase")},
+    "switches": ("switches", "{:03X}".format),
+    "LEDs": ("leds", "{:02X}".format),
+    "mouse": ("mouse", mouse),
+    "serial": ("serial", _serial),
+    "keys": ("keys", _keys),
+}
+_OTHERS = attrgetter(*(attribute for attribute, _ in TEXTS.values()))
 
 
 def kind(taken: Event) -> str:

@@ -19,8 +19,8 @@ _FALSE = re.compile(r"false checkpoint (\d{1,4}) at (\d{1,13}) part (.+)", re.AS
 
 
 def stretch(read: Recording, first: int, last: int) -> Recording:
-    """The recording from one checkpoint to a later one: what the first claims is its initial state, counts and inputs
-    begin at 0 again, and its pool has the pages that it names, in the order in which it names them."""
+    """Returns the recording from one checkpoint to a later one: what the first claims is its initial state, counts and
+    inputs begin at 0 again, and its pool has the pages that it names, in the order in which it names them."""
     begin, end = read.checkpoints[first].count, read.checkpoints[last].count
     from_here, up_to = (bisect_left(read.events, count, key=attrgetter("count")) for count in (begin, end))
     numbers = {0: 0}
@@ -49,7 +49,7 @@ class Found:
 
 
 def found(read: Recording, first: int, last: int, line: str) -> Found | None:
-    """What a line says of the stretch between two checkpoints; None if it can't be the line of that stretch."""
+    """Returns what a line says of the stretch between two checkpoints; None if it can't be the line of that stretch."""
     begin = read.checkpoints[first].count
     if accepted := _ACCEPTED.fullmatch(line):
         is_whole = (int(accepted[1]), int(accepted[2])) == (last - first, read.checkpoints[last].count - begin)
@@ -64,8 +64,8 @@ def found(read: Recording, first: int, last: int, line: str) -> Found | None:
 
 
 def joined(read: Recording, lines: Iterable[Found]) -> Found:
-    """What the lines of stretches say of the whole recording: the least false checkpoint, once all before it were
-    looked at."""
+    """Returns what the lines of stretches say of the whole recording: the least false checkpoint, once all before it
+    were looked at."""
     lines = list(lines)
     last = len(read.checkpoints) - 1
     false = {it.false: it for it in reversed(lines) if it.false is not None}
@@ -78,7 +78,7 @@ def joined(read: Recording, lines: Iterable[Found]) -> Found:
 
 
 def line(read: Recording, whole: Found) -> str:
-    """The line of a recording by what was found of it."""
+    """Returns the line of a recording by what was found of it."""
     at = whole.last if whole.false is None else whole.false
     count = read.checkpoints[at].count
     if whole.false is None:

@@ -29,7 +29,7 @@ class Shown:
 
 
 def page(program: Program, name: str, outcomes: Sequence[Outcome], jobs: int, changes: list[Change] | None) -> Iterator[str]:
-    """The page, piece by piece: what is not as expected comes first."""
+    """Returns the page, piece by piece: what is not as expected comes first."""
     wrong = sum(not it.is_ok for it in outcomes)
     headline = f"{len(outcomes) - wrong} of {len(outcomes)} as expected"
     ordered = sorted(outcomes, key=lambda it: it.is_ok)
@@ -60,7 +60,7 @@ def _shown(program: Program, outcomes: Sequence[Outcome], jobs: int, changes: li
 
 
 def thumbnail(program: Program, case: Case) -> bytes:
-    """The last screen of a recording, small, as PNG; empty if the program shows none."""
+    """Returns the last screen of a recording, small, as PNG; empty if the program shows none."""
     try:
         read = recording.lawful(program, case.name, case.content())
         drawn = program.screen(display_alone(read, read.checkpoints[-1]), 0)

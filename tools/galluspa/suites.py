@@ -30,13 +30,13 @@ class Case:
 
     @property
     def file(self) -> Path:
-        """The path, if a file is there and not a pipe, which nobody might write to."""
+        """Returns the path, if a file is there and not a pipe, which nobody might write to."""
         if self.path.exists() and not self.path.is_file():
             raise Refused(f"{self.name}: not a file")
         return self.path
 
     def content(self) -> bytes:
-        """The bytes of the recording."""
+        """Returns the bytes of the recording."""
         return read_file(self.file)
 
 
@@ -52,13 +52,13 @@ class Outcome:
 
     @property
     def is_ok(self) -> bool:
-        """Whether the answer is the one that was expected."""
+        """Returns whether the answer is the one that was expected."""
         expected = self.case.expected.split()
         return not self.is_error and self.answered.split()[: len(expected)] == expected
 
 
 def cases_of(folder: Path) -> list[Case]:
-    """The recordings under a folder, by their names."""
+    """Returns the recordings under a folder, by their names."""
     if not folder.is_dir():
         raise Refused(f"{folder}: not a folder")
     paths = [path for path in sorted(folder.rglob("*.orsr")) if not path.is_dir()]
@@ -76,7 +76,7 @@ def _case(name: str, path: Path, top: Path) -> Case:
 
 
 def expectation_of(recording: Path, top: Path) -> str:
-    """What a recording's answer has to begin with, by the file beside it, which has to be inside a folder."""
+    """Returns what a recording's answer has to begin with, by the file beside it, which has to be inside a folder."""
     beside = recording.with_suffix(".expect")
     if not beside.exists() and not beside.is_symlink():
         return "accepted"
@@ -92,7 +92,7 @@ def expectation_of(recording: Path, top: Path) -> str:
 
 
 def outcomes_of(program: Program, cases: Sequence[Case], jobs: int, workers: int, seconds: float) -> Iterator[Outcome]:
-    """The outcomes of cases, in their order, so many of them checked at a time, and each for so many seconds at
+    """Returns the outcomes of cases, in their order, so many of them checked at a time, and each for so many seconds at
     most."""
 
     def outcome(case: Case) -> Outcome:
@@ -109,7 +109,7 @@ def outcomes_of(program: Program, cases: Sequence[Case], jobs: int, workers: int
 
 
 def tap(number: int, outcome: Outcome) -> str:
-    """The lines of TAP that report an outcome."""
+    """Returns the lines of TAP that report an outcome."""
     name = for_tap(outcome.case.name)
     if outcome.is_ok:
         return f"ok {number} - {name}: {for_tap(outcome.answered)}"

@@ -3,7 +3,6 @@
 Names are claims of whoever made the file. They are shown beside numbers, and nothing is decided by them.
 """
 
-import contextlib
 import gc
 import re
 import unicodedata
@@ -16,6 +15,7 @@ from typing import NamedTuple
 
 from galluspa.command import Refused, complain, read_file
 from galluspa.escapes import printable
+from galluspa.garbage import uncollected
 from galluspa.others import alike_of
 from galluspa.sessions import MEMORY_BYTES
 
@@ -101,8 +101,9 @@ class Symbols:
         lines: Sequence[tuple[int, Row]] = (),
     ) -> None:
         """Names of code and data, constants, and lines of sources, each with its address, and as it is written."""
-        # The name of the file, as it is shown.
+        # The name of the file, as it is shown, and its bytes.
         self.origin = ""
+        self.content = b""
         self._placed = sorted(names)
         self._constants = constants
         self._lines = sorted((address, row[7], int(row[8])) for address, row in lines)
@@ -361,23 +362,11 @@ def parsed(content: bytes) -> Symbols:
         text = content.decode("utf-8-sig")
     except UnicodeDecodeError as error:
         raise Mistaken(content.count(b"\n", 0, error.start) + 1, "not a text in UTF-8") from error
-    with _uncollected():
+    with uncollected():
         found = _read(text) if max(map(len, text.split("\n"))) <= LONGEST_LINE else None
     if found is None:
         raise _first_mistake(text)
     return found
-
-
-@contextlib.contextmanager
-def _uncollected() -> Iterator[None]:
-    """Has Python look for no garbage meanwhile: among many objects that stay, that takes a third of the time."""
-    was_enabled = gc.isenabled()
-    gc.disable()
-    try:
-        yield
-    finally:
-        if was_enabled:
-            gc.enable()
 
 
 def _read(text: str) -> Symbols | None:
@@ -478,8 +467,9 @@ def symbols_for(asked: Path | None, *beside: Path) -> Symbols:
     path = asked or next((it for it in paths if it.is_file()), None)
     if not path:
         return NONE
+    content = read_file(path, MOST_BYTES + 1)
     try:
-        found = parsed(read_file(path, MOST_BYTES + 1))
+        found = parsed(content)
     except Mistaken as mistake:
         where = f"{path}:{mistake.line}: {mistake}" if mistake.line else f"{path}: {mistake}"
         if asked:
@@ -488,7 +478,7 @@ def symbols_for(asked: Path | None, *beside: Path) -> Symbols:
         return NONE
     # Names stay until the tool ends: they are not looked through for garbage any more.
     gc.freeze()
-    found.origin = shown(path.name)
+    found.origin, found.content = shown(path.name), content
     complain(f"{len(found):,} {'name' if len(found) == 1 else 'names'} from {path}")
     return found
 

@@ -60,11 +60,11 @@ class Timeline(Run):
 
     @property
     def end(self) -> int:
-        """The count of the last checkpoint."""
+        """Returns the count of the last checkpoint."""
         return self.counts[-1]
 
     def machine(self, count: int) -> Machine:
-        """The machine at a count."""
+        """Returns the machine at a count."""
         machine = self._before(count)
         for at in _stations(machine.count, count):
             self.advance(machine, at, lambda now: progress(f"at {now:,} of {count:,}"))
@@ -73,7 +73,7 @@ class Timeline(Run):
         return machine
 
     def _before(self, count: int) -> Machine:
-        """A machine at or before a count: the last that there is."""
+        """Returns a machine at or before a count: the last that there is."""
         with self._lock:
             kept = max((at for at in self._kept if at <= count), default=-1)
             claimed = max((self.counts[at] for at in self.true if self.counts[at] <= count), default=-1)
@@ -90,7 +90,7 @@ class Timeline(Run):
                 del self._kept[next(iter(self._kept))]
 
     def step(self, count: int) -> Step | None:
-        """The instruction of a count; None if the machine is stopped there."""
+        """Returns the instruction of a count; None if the machine is stopped there."""
         return next(self.steps(self.machine(count), count + 1), None)
 
 
@@ -113,7 +113,7 @@ class Point:
 
     @property
     def kind(self) -> str:
-        """What it is called."""
+        """Returns what it is called."""
         return "watchpoint" if self.is_after else "catchpoint" if self.condition.text == self.text else "breakpoint"
 
 
@@ -165,7 +165,7 @@ class Debugger:
 
     @property
     def machine(self) -> Machine:
-        """The machine at the count; it is not to be advanced."""
+        """Returns the machine at the count; it is not to be advanced."""
         return self._machine
 
     def at(self, count: int) -> None:
@@ -185,20 +185,20 @@ class Debugger:
         return self.points[self.numbered]
 
     def step(self) -> Step | None:
-        """The instruction of the count; None if the machine is stopped."""
+        """Returns the instruction of the count; None if the machine is stopped."""
         return next(self.run.steps(self.machine.copy(), self.count + 1), None)
 
     # Searches
 
     def first(self, conditions: Sequence[Condition], first: int, to: int) -> Hit | None:
-        """The first hit from a count up to another."""
+        """Returns the first hit from a count up to another."""
         near = min(first + NEAR_FORWARD, to)
         if first < near and (hit := Search(self.run, conditions, first, near).first()):
             return hit
         return Search(self.run, conditions, near, to, self.jobs).first() if near < to else None
 
     def last(self, conditions: Sequence[Condition], first: int, to: int) -> Hit | None:
-        """The last hit from a count up to another."""
+        """Returns the last hit from a count up to another."""
         near = max(to - NEAR_BACKWARD, first)
         if near < to and (hit := Search(self.run, conditions, near, to).last()):
             return hit
@@ -226,7 +226,7 @@ class Debugger:
         return self._paused(point, hit.step)
 
     def _paused(self, point: Point, step: Step) -> Pause:
-        """The pause at a point; one of number 0 says nothing of itself."""
+        """Returns the pause at a point; one of number 0 says nothing of itself."""
         if point is STOPPING:
             return Pause([self.stopped], step)
         if not point.is_after:
@@ -235,14 +235,14 @@ class Debugger:
         return Pause([f"{point.kind} {point.number}: {point.text}", *self.breaks()], step)
 
     def breaks(self, known: Sequence[Point] = ()) -> list[str]:
-        """A line for each point that pauses before the instruction of the count."""
+        """Returns a line for each point that pauses before the instruction of the count."""
         there = [it for it in self.points.values() if not it.is_after and (it in known or self._is_at(it))]
         for it in there:
             it.hits += 1
         return [f"{it.kind} {it.number}: {it.text}" for it in there]
 
     def _is_at(self, point: Point) -> bool:
-        """Whether a point's condition holds at the count."""
+        """Returns whether a point's condition holds at the count."""
         if self.machine.state.stop or self.count >= self.run.end:
             return False
         return bool(Search(self.run, [point.condition], self.count, self.count + 1).first())
@@ -289,11 +289,12 @@ class Debugger:
 
     @property
     def line(self) -> range | None:
-        """The addresses of the line of the source at which the machine is."""
+        """Returns the addresses of the line of the source at which the machine is."""
         return self.symbols.line_range(4 * self.machine.state.pc)
 
     def _was_called(self) -> tuple[int, int] | None:
-        """The word after the call that is the instruction before, and the stack's pointer; None if it is no call."""
+        """Returns the word after the call that is the instruction before, and the stack's pointer; None if it is no
+        call."""
         before = self.run.step(self.count - 1)
         if before is None or before.word is None or not is_call(before.word):
             return None
@@ -353,7 +354,7 @@ class Debugger:
         self.step_back_over()
 
     def _call_before(self) -> int | None:
-        """The count of the call that has just returned; None if none has."""
+        """Returns the count of the call that has just returned; None if none has."""
         pc, pointer, to = self.machine.state.pc, self.machine.state.r[14], self.count
         if not to or not 0 < pc <= WORDS or not is_call(self.machine.words[pc - 1]):
             return None
@@ -369,8 +370,8 @@ class Debugger:
     # Procedures
 
     def activation(self) -> Activation:
-        """The call by which the machine came to be in its procedure: the last one of it that has not returned. Refused
-        if there is none."""
+        """Returns the call by which the machine came to be in its procedure: the last one of it that has not returned.
+        Raises Refused if there is none."""
         pc = self.machine.state.pc
         entry = callers_in(self.machine, self.symbols).entry_of(4 * pc)
         to = self.count + 1
@@ -383,12 +384,12 @@ class Debugger:
         raise Refused("no call of this procedure is found that has not returned")
 
     def _is_called(self, it: Activation) -> bool:
-        """Whether a call led to the first instruction of what may be an activation."""
+        """Returns whether a call led to the first instruction of what may be an activation."""
         before = self.run.step(it.count - 1) if it.count else None
         return bool(before and before.word is not None and is_call(before.word) and before.before.pc + 1 == it.back)
 
     def _has_returned(self, it: Activation) -> bool:
-        """Whether an activation has returned by now."""
+        """Returns whether an activation has returned by now."""
         first = it.count + 1
         while first <= self.count and (hit := self.first([at_word(it.back)], first, self.count + 1)):
             if hit.step.before.registers[14] >= it.pointer:

@@ -8,28 +8,28 @@ from galluspa.places import OF_WHEEL, TOP, first_of
 
 
 def version() -> str:
-    """The version of these tools and of the program that was installed with them."""
+    """Returns the version of these tools and of the program that was installed with them."""
     return number() + ("" if _file() else ", as it is in the repository")
 
 
 def number() -> str:
-    """The same, as a number."""
+    """Returns the same, as a number."""
     file = _file()
     return file.read_text().strip() if file else of_commit(last_commit())
 
 
 def _file() -> Path | None:
-    """The file that says the version, of what was made with one."""
+    """Returns the file that says the version, of what was made with one."""
     return first_of(OF_WHEEL / "VERSION", TOP / "VERSION")
 
 
 def of_commit(when: int) -> str:
-    """The version of what was committed last at a time."""
+    """Returns the version of what was committed last at a time."""
     return time.strftime("0.%Y%m%d", time.gmtime(when))
 
 
 def last_commit() -> int:
-    """When the last commit was made, in seconds; now, if there is no repository."""
+    """Returns when the last commit was made, in seconds; now, if there is no repository."""
     command = ["git", "-C", str(TOP), "log", "-1", "--format=%ct"]
     try:
         printed = subprocess.run(command, stdout=subprocess.PIPE, stderr=subprocess.DEVNULL, check=False).stdout.strip()

@@ -75,9 +75,13 @@ GROUPS = {
     ),
     "Keep suites and compare emulators": (
         Command("suite", "check each recording under a folder, in parallel, and print TAP"),
+        Command("rerun", "run stored sessions on a new image, and compare what a user sees with what was approved"),
         Command("executed", "report which procedures, lines and branches of the program suites execute"),
         Command("coverage", "report what suites exercise of the machine's instruction set, and what not"),
         Command("bisect", "find the instruction after which another emulator and the machine differ"),
+        Command("fuzz", "find a small program on which another emulator and the machine differ"),
+        Command("shrink", "make a session small, as long as a command says that it is still wrong"),
+        Command("compare-trace", "find the first line of another emulator's trace that differs from the machine"),
         Command("slice", "cut the stretch between two checkpoints out of a recording"),
         Command("join", "make the verdict line of a recording from the lines of its slices"),
         Command("claim", "change one claim of a recording"),
@@ -137,7 +141,7 @@ def parser() -> Parser:
 
 
 def _listing() -> str:
-    """The subcommands, group by group, a line for each."""
+    """Returns the subcommands, group by group, a line for each."""
     there = commands()
     groups = ((title, [it for it in group if it in there]) for title, group in GROUPS.items())
     return "\n\n".join("\n".join([f"{title}:", *(f"  {it.name:15}{it.does}" for it in group)]) for title, group in groups if group)
@@ -151,7 +155,7 @@ def main(arguments: Sequence[str]) -> int:
 
 
 def _with_command(words: list[str]) -> list[str]:
-    """The arguments, with the subcommand that is meant."""
+    """Returns the arguments, with the subcommand that is meant."""
     if words[:1] == ["help"]:
         words = [*words[1:2], "--help"]
     first, names = words[0] if words else "--help", [it.name for it in commands()]

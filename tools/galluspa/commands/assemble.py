@@ -33,7 +33,7 @@ from galluspa.symbols import (
 
 
 def parser() -> Parser:
-    """The command line of this tool."""
+    """Returns the command line of this tool."""
     options = Parser(
         dedent(
             """\
@@ -88,7 +88,7 @@ def refuse_if_wrong(asked: Namespace, it: Assembly, problems: Sequence[Problem])
 
 
 def words_of(it: Assembly) -> Iterator[str]:
-    """A line for each word that a statement fills, with its source and that line's number beside the first of them; and
+    """Yields a line for each word that a statement fills, with its source and that line's number beside the first of them; and
     a line for labels that are alone in theirs."""
     memory = bytes(it.memory) + bytes(-len(it.memory) % 4)
     has_files = len({line.file for line in it.sources}) > 1
@@ -105,7 +105,7 @@ def words_of(it: Assembly) -> Iterator[str]:
 
 
 def symbols_of(it: Assembly) -> Iterator[Symbol]:
-    """The labels, each up to the next one or to the end of what is filled, and the constants."""
+    """Yields the labels, each up to the next one or to the end of what is filled, and the constants."""
     code = {statement.here for statement in it.statements if statement.does == INSTRUCTION}
     filled = sorted((region.start, region.end) for region in it.regions if region.end > region.start)
     addresses = sorted(set(it.labels.values()))
@@ -127,7 +127,7 @@ def _symbol(it: Assembly, name: str, at: int, size: int, kind: str) -> Symbol:
 
 
 def symbol_file(it: Assembly) -> bytes:
-    """The symbol file of sources: what is too long for one is left out."""
+    """Returns the symbol file of sources: what is too long for one is left out."""
 
     def line_of(statement: Statement) -> Source:
         line = it.source(statement.line)
@@ -142,7 +142,7 @@ def symbol_file(it: Assembly) -> bytes:
 
 
 def end_of(asked: Namespace, it: Assembly, made: settings.Settings) -> int | None:
-    """The count at which the run ends as the line with until says; None if there is no such line."""
+    """Returns the count at which the run ends as the line with until says; None if there is no such line."""
     if not made.until:
         return None
     try:

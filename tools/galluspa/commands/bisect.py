@@ -6,7 +6,6 @@ the same before an instruction and differ after it. The exit status is 0 if they
 tried, 1 if they do, and 2 for bad input.
 """
 
-import json
 from argparse import Namespace
 from collections.abc import Iterator, Sequence
 from dataclasses import dataclass
@@ -16,16 +15,16 @@ from pathlib import Path
 from textwrap import dedent
 
 from galluspa import recording, states
-from galluspa.command import Parser, Refused, progress, read_file, whole_number
+from galluspa.command import Parser, Refused, progress, whole_number
 from galluspa.coverage import unexercised
 from galluspa.emulators import PLACE, Emulator, Shown
 from galluspa.executed import executed
 from galluspa.explanation import Difference, table
+from galluspa.initial import recording_of
 from galluspa.library import Library, Machine, Sent
 from galluspa.naming import Trace, named_row
-from galluspa.program import REFUSED, Program
-from galluspa.sessionfaults import parsed
-from galluspa.sessions import CHECKPOINTS, COUNTS
+from galluspa.program import Program
+from galluspa.sessions import COUNTS
 from galluspa.symbols import NONE, Symbols, symbols_for
 from galluspa.tracing import Run, differing
 
@@ -60,7 +59,7 @@ class Search:
     parted: Look | None = None
 
     def is_same(self, count: int) -> bool:
-        """Whether they are the same at a later count too; if so, the search goes on from there."""
+        """Returns whether they are the same at a later count too; if so, the search goes on from there."""
         self.asked += 1
         progress(f"run {self.asked}: the same at {self.machine.count:,}, looking at {count:,}")
         machine = self.machine.copy()
@@ -84,7 +83,7 @@ class Search:
 
 
 def parser() -> Parser:
-    """The command line of this tool."""
+    """Returns the command line of this tool."""
     options = Parser(
         dedent(
             f"""\
@@ -96,6 +95,14 @@ def parser() -> Parser:
     )
     options.add_argument("session", metavar="SESSION", type=Path, help="a session, or a recording")
     options.add_argument("command", metavar="COMMAND", nargs="+", help="after --: the command and its arguments")
+    options.add_argument(
+        "--from",
+        metavar="N",
+        dest="first",
+        type=whole_number(0, COUNTS),
+        default=0,
+        help="a count at which the two are the same, such as that of the last true checkpoint (default 0)",
+    )
     options.add_argument(
         "--to", metavar="N", type=whole_number(1, COUNTS), help="the last count to try (default: that of the last checkpoint)"
     )
@@ -126,66 +133,43 @@ def parser() -> Parser:
     return options
 
 
-def recording_of(program: Program, path: Path) -> tuple[bytes, int]:
-    """A recording that begins as a session or a recording does and has its inputs, and the last count of that."""
-    text = read_file(path)
-    if text.startswith(b"ORSR"):
-        return text, recording.lawful(program, str(path), text).checkpoints[-1].count
-    session, last = _without_checkpoints(text)
-    answer = program.record(session)
-    if answer.status == REFUSED:
-        raise Refused(f"{path}: neither a recording nor a session: {answer.line}")
-    return answer.output, last
+def is_doubling(first: int, to: int, every: int | None) -> bool:
+    """Returns whether not each count, or every so many, is looked at from one up to another."""
+    return every is None and to - first > SHORT
 
 
-def _without_checkpoints(text: bytes) -> tuple[bytes, int]:
-    """A session without its checkpoints, so that recording it runs nothing, and the last of their counts. A text whose
-    checkpoints are not lawful stays as it is, for the program to refuse."""
-    session = parsed(text)
-    counts = session.get("checkpoints") if isinstance(session, dict) else None
-    if not isinstance(counts, list) or not all(type(count) is int and 0 < count <= COUNTS for count in counts):
-        return text, 0
-    if any(one >= other for one, other in zip(counts, counts[1:])) or len(counts) > CHECKPOINTS:
-        return text, 0
-    return json.dumps({**session, "checkpoints": []}).encode(), counts[-1] if counts else 0
-
-
-def is_doubling(to: int, every: int | None) -> bool:
-    """Whether not each count, or every so many, is looked at up to one."""
-    return every is None and to > SHORT
-
-
-def counts_of(to: int, every: int | None, inputs: Sequence[int]) -> Iterator[int]:
-    """The counts to look at before bisecting, the last one among them: every so many, or if that is not said, each of
-    a short run, and else 1, 2, 4, 8 .. and the counts after some of the inputs, of which the counts are given."""
-    if is_doubling(to, every):
-        doubled = (1 << power for power in range(to.bit_length()) if 1 << power < to)
-        counts = merge(doubled, (count + 1 for count in inputs if count + 1 < to))
+def counts_of(first: int, to: int, every: int | None, inputs: Sequence[int]) -> Iterator[int]:
+    """Yields the counts after a first one to look at before bisecting, the last one among them: every so many, or if that is not
+    said, each of a short run, and else 1, 2, 4, 8 .. later and those after some of the inputs, whose counts are given."""
+    if is_doubling(first, to, every):
+        length = to - first
+        doubled = (first + (1 << power) for power in range(length.bit_length()) if 1 << power < length)
+        counts = merge(doubled, (count + 1 for count in inputs if first < count + 1 < to))
     else:
-        counts = range(every or 1, to, every or 1)
+        counts = range(first + (every or 1), to, every or 1)
     yield from (count for count, _ in groupby(counts))
     yield to
 
 
 def some_of(counts: Sequence[int]) -> Sequence[int]:
-    """The different counts among these, or so many of them as are looked at, evenly spread."""
+    """Returns the different counts among these, or so many of them as are looked at, evenly spread."""
     different = [count for count, _ in groupby(counts)]
     return different[:: -(-len(different) // AFTER_INPUTS) or 1]
 
 
 def sameness(asked: int, to: int, tried: int, inputs: int) -> str:
-    """The line that says that the two never differ at the counts that were looked at; `tried` are those after inputs,
+    """Returns the line that says that the two never differ at the counts that were looked at; `tried` are those after inputs,
     of which there are so many."""
     line = f"the same at {to}, and at each of the {asked} counts that were looked at"
     return f"{line}; {tried:,} of {inputs:,} counts after inputs are among them" if tried < inputs else line
 
 
-def not_exercised(run: Run, to: int) -> Iterator[str]:
-    """The lines that say which instructions a run up to a count does not do, so that the comparison says nothing of
-    them."""
+def not_exercised(run: Run, first: int, to: int) -> Iterator[str]:
+    """Yields the lines that say which instructions a run from a count up to another does not do, so that the comparison says
+    nothing of them."""
     progress("looking at what the run exercises")
     try:
-        found = executed(run, to)
+        found = executed(run, to, first)
     except Refused as refusal:
         yield f"what the run exercises is not known: {refusal}"
         return
@@ -193,15 +177,16 @@ def not_exercised(run: Run, to: int) -> Iterator[str]:
         progress("")
     rows = list(unexercised(found.rows))
     if rows:
-        all_of_them = f"of the {to:,} instructions"
-        some = f"of the {found.looked_at:,} instructions that were looked at, of {to:,},"
-        yield f"none {all_of_them if found.looked_at == to else some} is one of these:"
+        number = to - first
+        all_of_them = f"of the {number:,} instructions"
+        some = f"of the {found.looked_at:,} instructions that were looked at, of {number:,},"
+        yield f"none {all_of_them if found.looked_at == number else some} is one of these:"
         yield from (f"{name}: {', '.join(names)}" for name, names in rows)
         yield "the recordings of examples/suite exercise them all (docs/suites.md says how to run an emulator on them)"
 
 
 def report(search: Search, parted: Look, steps: int, symbols: Symbols = NONE) -> Iterator[str]:
-    """The lines that say where the two part: the states after the instruction, and the trace up to it."""
+    """Yields the lines that say where the two part: the states after the instruction, and the trace up to it."""
     same = search.machine.count
     yield f"differs after instruction {same}: the same at {same}, not at {same + 1}, found by {search.asked} runs"
     yield ""
@@ -232,6 +217,18 @@ def _last_bytes(sent: bytes, before: int) -> str:
     return f"{len(sent):,} bytes" + (f", the last {sent[before:].hex(' ')}" if len(sent) > before else "")
 
 
+def begin(asked: Namespace, run: Run) -> Search:
+    """Returns the search from the first count on, at which the two have to be the same."""
+    machine = run.machine(0)
+    search = Search(run, Emulator(asked.command, asked.seconds), machine, run.advance(machine, asked.first))
+    search.is_same(asked.first)
+    if search.parted:
+        advice = "give a smaller --from" if asked.first else "begin with the session's initial state"
+        names = ", ".join(search.parted.names)
+        raise Refused(f"the emulator and the machine differ at count {asked.first}, in {names}: {advice}")
+    return search
+
+
 def main(asked: Namespace) -> int:
     """Prints where the two emulators part."""
     if not any(PLACE in word for word in asked.command):
@@ -242,21 +239,17 @@ def main(asked: Namespace) -> int:
     to = asked.to or last
     if not to:
         raise Refused(f"{asked.session}: no checkpoint: give --to N")
+    if asked.first >= to:
+        raise Refused(f"--from {asked.first} is not before {to}, the last count to try")
     read = recording.read(text)
-    looked_at = Run(library, text, read, range(1))
-    search = Search(looked_at, Emulator(asked.command, asked.seconds), looked_at.machine(0))
-    search.is_same(0)
-    if search.parted:
-        raise Refused(
-            f"the emulator and the machine differ at count 0, in {', '.join(search.parted.names)}: begin "
-            "with the session's initial state"
-        )
-    inputs = [event.count for event in read.events if event.count < to] if is_doubling(to, asked.every) else []
+    search = begin(asked, Run(library, text, read, range(1)))
+    inputs = [event.count for event in read.events if asked.first <= event.count < to]
+    inputs = inputs if is_doubling(asked.first, to, asked.every) else []
     tried = some_of(inputs)
-    parted = search.narrow(counts_of(to, asked.every, tried))
+    parted = search.narrow(counts_of(asked.first, to, asked.every, tried))
     if not parted:
         print(sameness(search.asked, to, len(tried), len(set(inputs))), flush=True)
-        print("\n".join(not_exercised(looked_at, to)))
+        print("\n".join(not_exercised(search.run, asked.first, to)))
         return 0
     print("\n".join(report(search, parted, asked.steps, symbols)))
     return 1

@@ -25,6 +25,8 @@ CRATES = TOP / "crates"
 LIBRARY = "galluspa"
 SOURCES = ("src", "specs", "proofs")
 OUT = CRATES / LIBRARY / "out"
+# By which name a program finds the shared library that it was linked with: the number rises when calls become others.
+SONAME = f"lib{LIBRARY}.so.0"
 ARCHIVE, SHARED, BITCODE = OUT / f"lib{LIBRARY}.a", OUT / f"lib{LIBRARY}.so", OUT / f"{LIBRARY}.bc"
 STAMP = OUT / f"{LIBRARY}.stamp"
 # Where what is proved is kept for the next build. After `rt ci` nothing is kept there, and to keep it takes time.
@@ -40,14 +42,14 @@ exec '{clang}' "$@"
 
 
 def dependencies() -> dict[str, list[str]]:
-    """The crates that each crate depends on directly, by crates.txt; the kit's libraries are among them."""
+    """Returns the crates that each crate depends on directly, by crates.txt; the kit's libraries are among them."""
     lines = (TOP / "crates.txt").read_text().splitlines()
     rows = (line.partition(":") for line in lines if ":" in line and line[0] != "#")
     return {head.split()[0]: names.split() for head, _, names in rows}
 
 
 def below(name: str, known: dict[str, list[str]]) -> list[str]:
-    """The crates of this repository that a crate depends on, directly or not, each after those that it depends on."""
+    """Returns the crates of this repository that a crate depends on, directly or not, each after those that it depends on."""
     found: list[str] = []
     for dependency in known[name]:
         if dependency in known:
@@ -56,12 +58,12 @@ def below(name: str, known: dict[str, list[str]]) -> list[str]:
 
 
 def rlib(name: str) -> Path:
-    """Where the built library of a crate is."""
+    """Returns where the built library of a crate is."""
     return CRATES / name / f"out/rlib/{name}.rlib"
 
 
 def sum_of_sources(crates: Sequence[str]) -> str:
-    """A sum of all that is built from: the kit, the sources of the crates, and this script."""
+    """Returns a sum of all that is built from: the kit, the sources of the crates, and this script."""
     version = subprocess.run(["rt", "version"], stdout=subprocess.PIPE, check=True).stdout
     found = hashlib.sha256(version + Path(__file__).read_bytes() + (TOP / "crates.txt").read_bytes())
     for name in (*crates, LIBRARY):
@@ -73,7 +75,7 @@ def sum_of_sources(crates: Sequence[str]) -> str:
 
 
 def is_done(sources: str) -> bool:
-    """Whether all that is built is there, and was made from what has this sum."""
+    """Returns whether all that is built is there, and was made from what has this sum."""
     return all(file.is_file() for file in (ARCHIVE, SHARED, BITCODE, STAMP)) and STAMP.read_text() == sources
 
 
@@ -87,7 +89,7 @@ def called(command: Sequence[object], folder: Path) -> None:
 
 
 def kit() -> Path:
-    """The folder of the Rattle kit."""
+    """Returns the folder of the Rattle kit."""
     if not shutil.which("rt"):
         raise Refused("there is no command rt: install the Rattle kit")
     return Path(subprocess.run(["rt", "doc"], stdout=subprocess.PIPE, check=True, text=True).stdout.strip()).parent
@@ -107,7 +109,7 @@ def keeping_toolchain(folder: Path, toolchain: Path, kept: Path) -> Path:
 
 
 def arguments(kit_folder: Path, known: dict[str, list[str]], crates: Sequence[str]) -> Iterator[object]:
-    """The arguments of `rattle build`, but for the toolchain, what it keeps and the output."""
+    """Yields the arguments of `rattle build`, but for the toolchain, what it keeps and the output."""
     yield from ("--crate-name", LIBRARY, "src/lib.rt")
     for name in ("std", *(it for it in known[LIBRARY] if it not in known)):
         yield from ("--extern", f"{name}={kit_folder}/rlibs/{name}.rlib")
@@ -149,7 +151,7 @@ def link(compiled: Path, kit_folder: Path, folder: Path) -> None:
     called(["objcopy", "--wildcard", f"--keep-global-symbol={LIBRARY}_*", whole], OUT)
     ARCHIVE.unlink(missing_ok=True)
     called(["ar", "rcsD", ARCHIVE, whole], OUT)
-    called(["cc", "-shared", "-Wl,--no-undefined", f"-Wl,-soname,{SHARED.name}", whole, "-o", SHARED], OUT)
+    called(["cc", "-shared", "-Wl,--no-undefined", f"-Wl,-soname,{SONAME}", whole, "-o", SHARED], OUT)
 
 
 def build(known: dict[str, list[str]], crates: Sequence[str], keeps: Sequence[str]) -> None:
@@ -162,7 +164,7 @@ def build(known: dict[str, list[str]], crates: Sequence[str], keeps: Sequence[st
 
 
 def parser() -> Parser:
-    """The command line of this tool."""
+    """Returns the command line of this tool."""
     options = Parser("Proves the library for C and builds it: static, shared, and as LLVM bitcode.", "galluspa build-library")
     options.add_argument("--as-built", action="store_true", help="use the libraries below as rt ci has just built them")
     return options

@@ -14,7 +14,7 @@ MOST_WORKERS = 64
 
 
 def parser() -> Parser:
-    """The command line of this tool."""
+    """Returns the command line of this tool."""
     options = Parser(
         dedent(
             """\

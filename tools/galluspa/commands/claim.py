@@ -12,7 +12,7 @@ from galluspa.states import REGISTERS, WORDS
 
 
 def parser() -> Parser:
-    """The command line of this tool."""
+    """Returns the command line of this tool."""
     options = Parser(
         "Prints a recording with one claim changed: a part of a checkpoint claims another value.",
         "galluspa claim examples/face.orsr --at 1 --set R5=9 > false.orsr",
@@ -30,7 +30,7 @@ def parser() -> Parser:
 
 
 def claiming(checkpoint: Checkpoint, name: str, value: int) -> Checkpoint:
-    """A checkpoint that claims a value for one part."""
+    """Returns a checkpoint that claims a value for one part."""
     if name in WORDS:
         return replace(checkpoint, **{WORDS[name]: value})
     registers = list(checkpoint.registers)

@@ -1,28 +1,29 @@
 """Reports what the recordings of suites exercise of the machine, and what they do not.
 
-The program records each of them again with a checkpoint at every count, so the proved machine executed all that is
-counted. Of a long recording the tool examines only the first instructions after each checkpoint.
+The proved library executes all that is counted, from the initial state with the inputs of the recording. Of a long
+recording the tool examines only the first instructions after each checkpoint.
 """
 
 import sys
 from argparse import Namespace
-from collections.abc import Iterator, Sequence
-from itertools import groupby
 from pathlib import Path
 from textwrap import dedent
 
 from galluspa import recording
 from galluspa.command import Parser, Refused, progress, whole_number, with_libraries, write_file
-from galluspa.coverage import CELLS, TABLES, Coverage, Table
+from galluspa.coverage import Coverage
+from galluspa.coveragetext import lines
 from galluspa.escapes import printable
+from galluspa.library import Library
 from galluspa.limits import Limit, TimeIsUp
 from galluspa.program import Program
-from galluspa.steps import counts_of, steps_of
+from galluspa.steps import steps_of, stretches_of
 from galluspa.suites import Case, cases_of
+from galluspa.tracing import Run
 
 
 def parser() -> Parser:
-    """The command line of this tool."""
+    """Returns the command line of this tool."""
     options = Parser(
         dedent(
             """\
@@ -45,59 +46,35 @@ def parser() -> Parser:
     options.add_argument("--page", metavar="FILE", help="write the tables as one page (HTML)")
     options.add_limit_option("end after so many seconds, and name the recordings that were not examined by then")
     options.add_program_option()
+    options.add_library_option()
     return options
 
 
-def add(seen: Coverage, program: Program, case: Case, most: int) -> str:
+def add(seen: Coverage, machines: tuple[Program, Library], case: Case, most: int) -> str:
     """Counts the instructions of a recording, and gives back what was not looked at."""
+    program, library = machines
     try:
-        read = recording.lawful(program, case.name, case.content())
-        counts = counts_of(read, most)
-        seen.add(case.name, steps_of(program, case.name, read, counts))
+        content = case.content()
+        read = recording.lawful(program, case.name, content)
+        stretches = stretches_of(read, most)
+        seen.add(case.name, steps_of(Run(library, content, read, range(1)), stretches))
     except Refused as refusal:
         return printable(str(refusal))
     except TimeIsUp as over:
         return f"{case.name}: {over}"
-    last = read.checkpoints[-1].count
-    return "" if len(counts) == last else f"{case.name}: {last - len(counts):,} of {last:,} instructions"
-
-
-def table_lines(table: Table, seen: Coverage) -> Iterator[str]:
-    """A table as text; a dot stands where a cell can't be."""
-    width = max(len(row) for row in table.rows)
-    wide = [max(8, len(column)) for column in table.columns]
-    yield ""
-    yield f"{table.name:{width}}  " + "  ".join(f"{column:>{it}}" for column, it in zip(table.columns, wide))
-    for row in table.rows:
-        cells = [(row, column) for column in table.columns]
-        shown = ["." if cell in table.absent else str(seen.times[table.name, *cell]) for cell in cells]
-        yield f"{row:{width}}  " + "  ".join(f"{cell:>{it}}" for cell, it in zip(shown, wide))
-
-
-def lines(summary: str, unread: Sequence[str], seen: Coverage, with_tables: bool) -> Iterator[str]:
-    """What was found, as text."""
-    yield summary
-    yield from (f"not looked at: {it}" for it in unread)
-    for table in TABLES:
-        every = len(list(table.cells()))
-        yield f"{table.name:20} {every - len(seen.missing(table)):4} of {every:4}"
-    missing = [cell for cell in CELLS if not seen.times[cell]]
-    yield f"{'all':20} {len(CELLS) - len(missing):4} of {len(CELLS):4}"
-    for (name, row), cells in groupby(missing, key=lambda it: it[:2]):
-        yield f"not exercised: {name}, {row}: {', '.join(column for _, _, column in cells)}"
-    if with_tables:
-        for table in TABLES:
-            yield from table_lines(table, seen)
+    last, seen_of_it = read.checkpoints[-1].count, sum(map(len, stretches))
+    return "" if seen_of_it == last else f"{case.name}: {last - seen_of_it:,} of {last:,} instructions"
 
 
 def main(asked: Namespace) -> int:
     """Prints what the recordings of suites exercise."""
     page = with_libraries("galluspa.coveragepage").page if asked.page else None
-    program = Program.find(asked.program, Limit(asked.limit))
+    limit = Limit(asked.limit)
+    machines = Program.find(asked.program, limit), Library.find(asked.library, limit)
     cases = [case for folder in asked.folders for case in cases_of(folder)]
     seen, unread = Coverage(), []
     for done, case in enumerate(cases, 1):
-        if reason := add(seen, program, case, asked.steps):
+        if reason := add(seen, machines, case, asked.steps):
             unread.append(reason)
         progress(f"{done} of {len(cases)} recordings", is_last=done == len(cases))
     summary = f"{len(cases)} recordings, {seen.instructions:,} instructions"

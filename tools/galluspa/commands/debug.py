@@ -32,7 +32,7 @@ BETWEEN = " \t\n"
 
 
 def parser() -> Parser:
-    """The command line of this tool."""
+    """Returns the command line of this tool."""
     listed = "\n".join(f"  {f'{it.name} {it.arguments}'.rstrip():28}{it.does}" for it in COMMANDS)
     options = Parser(
         dedent(
@@ -101,7 +101,7 @@ class _Given(Action):
 
 
 def given_lines(asked: Namespace) -> Iterator[tuple[str, str]]:
-    """The commands that the command line gives, each with what is said of where it is."""
+    """Yields the commands that the command line gives, each with what is said of where it is."""
     for kind, text in asked.given:
         if kind != "FILE":
             yield f"-ex {text}", text
@@ -165,14 +165,14 @@ class Shell(cmd.Cmd):
         return False
 
     def _repeatable(self, line: str) -> str:
-        """The line that an empty line after this one stands for: the same for a move, and nothing else."""
+        """Returns the line that an empty line after this one stands for: the same for a move, and nothing else."""
         with contextlib.suppress(Refused):
             if self.commands.parted(line)[0].is_repeated:
                 return line
         return ""
 
     def complete(self, text: str, state: int) -> str | None:  # type: ignore[override]
-        """The completions of a word, one after the other, as readline takes them."""
+        """Returns the completions of a word, one after the other, as readline takes them."""
         import readline
 
         if state == 0:

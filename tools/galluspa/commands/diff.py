@@ -26,7 +26,7 @@ from galluspa.tracing import WORKERS, Run
 
 
 def parser() -> Parser:
-    """The command line of this tool."""
+    """Returns the command line of this tool."""
     options = Parser(
         dedent(
             """\
@@ -66,7 +66,7 @@ def parser() -> Parser:
 
 
 def parts(text: str) -> Set[str]:
-    """The names of parts that a text has."""
+    """Returns the names of parts that a text has."""
     names = [it.strip() for it in text.split(",")]
     unknown = next((it for it in names if it not in PARTS), None)
     if unknown is not None:
@@ -82,7 +82,7 @@ class Writers:
         self._library = library
 
     def lines(self, it: Found) -> Iterator[str]:
-        """The lines that say so."""
+        """Yields the lines that say so."""
         if it.part is None or not it.checkpoint:
             return
         for (side, text, read, symbols), value in zip(self._sides, it.values, strict=True):
@@ -125,7 +125,7 @@ def main(asked: Namespace) -> int:
 
 
 def writers_of(asked: Namespace, limit: Limit, texts: Sequence[bytes], read: Sequence[Recording], symbols: Symbols) -> Writers:
-    """Who wrote, with the names of the symbol file that is asked for, or of that beside each recording."""
+    """Returns who wrote, with the names of the symbol file that is asked for, or of that beside each recording."""
     is_other = asked.symbols is None and asked.second.with_suffix(".sym") != asked.first.with_suffix(".sym")
     other = symbols_for(None, asked.second) if is_other and asked.second.name else symbols
     return Writers(Library.find(asked.library, limit), texts, read, (symbols, other or symbols))

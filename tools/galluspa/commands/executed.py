@@ -25,7 +25,7 @@ from galluspa.symbols import symbols_for
 
 
 def parser() -> Parser:
-    """The command line of this tool."""
+    """Returns the command line of this tool."""
     options = Parser(
         dedent(
             """\
@@ -72,12 +72,12 @@ class Counted:
 
 
 def cases(suites: list[Path]) -> list[Case]:
-    """The recordings under folders, and those that are named."""
+    """Returns the recordings under folders, and those that are named."""
     return [it for path in suites for it in ([Case(printable(str(path)), path, "")] if path.is_file() else cases_of(path))]
 
 
 def counted(library: Library, case: Case) -> Counted:
-    """The counts of a recording."""
+    """Returns the counts of a recording."""
     try:
         run = run_of(library, case.content())
         return Counted(case, executions_of(run, 0, run.counts[-1]))
@@ -86,7 +86,7 @@ def counted(library: Library, case: Case) -> Counted:
 
 
 def all_counted(library: Library, wanted: list[Case], jobs: int) -> tuple[Executions, list[str]]:
-    """What all recordings execute together, and which were not counted, with the reason."""
+    """Returns what all recordings execute together, and which were not counted, with the reason."""
     together, unread = Executions(), list[str]()
     for done, it in enumerate(in_parallel(jobs, partial(counted, library), wanted), 1):
         together.add(it.seen)

@@ -25,7 +25,7 @@ STEPS = 1000
 
 
 def parser() -> Parser:
-    """The command line of this tool."""
+    """Returns the command line of this tool."""
     options = Parser(
         dedent(
             """\
@@ -65,7 +65,7 @@ def parser() -> Parser:
 
 
 def explanation(text: bytes, answer: Answer, program: Program, asked: Namespace, symbols: Symbols) -> Iterator[str]:
-    """The lines that explain what the program answers to a recording's text."""
+    """Yields the lines that explain what the program answers to a recording's text."""
     library = Library.find(asked.library, program.limit) if answer.false_claim else None
     yield answer.line
     if answer.fault:
@@ -80,7 +80,7 @@ def explanation(text: bytes, answer: Answer, program: Program, asked: Namespace,
             callers = callers_of(looked_at, it, symbols) if symbols else ""
         except TimeIsUp:
             callers = ""
-        yield from plain(it, asked.words, symbols, callers)
+        yield from plain(it, str(asked.recording), asked.words, symbols, callers)
 
 
 def main(asked: Namespace) -> int:

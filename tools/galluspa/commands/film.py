@@ -33,7 +33,7 @@ FRAMES, MOST_FRAMES = 1000, 10_000
 
 
 def parser() -> Parser:
-    """The command line of this tool."""
+    """Returns the command line of this tool."""
     options = Parser(
         dedent(
             f"""\

@@ -5,8 +5,9 @@ it changes, as `galluspa trace` shows it. The search shows the machine, whatever
 """
 
 import json
+import sys
 from argparse import Namespace
-from collections.abc import Iterator
+from collections.abc import Callable, Iterator
 from pathlib import Path
 from textwrap import dedent
 
@@ -15,10 +16,10 @@ from galluspa.conditions import CONDITIONS, conditions_of
 from galluspa.finding import Hit, Search
 from galluspa.library import Library
 from galluspa.limits import Limit, TimeIsUp
-from galluspa.naming import named_object, placed_lines
 from galluspa.program import Program
 from galluspa.sessions import COUNTS
 from galluspa.symbols import Symbols, symbols_for
+from galluspa.traceformats import JsonLines, TextLines
 from galluspa.tracing import MOST_WORKERS, WORKERS, Run
 
 MOST = 1000
@@ -102,15 +103,27 @@ def hits_of(search: Search, asked: Namespace) -> Iterator[Hit]:
         yield hit
 
 
+def text_of(symbols: Symbols) -> Callable[[Hit], str]:
+    """How a hit is shown: the lines of its instruction."""
+    lines = TextLines(symbols).lines
+    return lambda hit: lines(hit.raw)
+
+
+def json_of(symbols: Symbols) -> Callable[[Hit], str]:
+    """How a hit is shown to machines: the object of its instruction, and the condition."""
+    line = JsonLines(symbols).line
+    return lambda hit: f'{line(hit.raw)[:-1]}, "condition": {json.dumps(hit.condition.text)}}}'
+
+
 def main(asked: Namespace) -> int:
     """Prints the hits that were asked for; the status is 1 if there are none."""
     symbols = symbols_for(asked.symbols, asked.recording)
     search, status = search_of(asked, symbols), WRONG
+    shown, write = (json_of if asked.json else text_of)(symbols), sys.stdout.write
     try:
         for hit in hits_of(search, asked):
             status = OK
-            shown: dict[str, object] = {**named_object(hit.step, symbols), "condition": hit.condition.text}
-            print(json.dumps(shown) if asked.json else "\n".join(placed_lines(hit.step, symbols)))
+            write(f"{shown(hit)}\n")
     except TimeIsUp as over:
         first, end = (search.left_before(), search.end) if asked.last else (search.first_count, search.reached())
         none = f"no {search.text} in {first}..{end}" if first < end else "searched nothing yet"

@@ -20,7 +20,7 @@ NAME = re.compile(r"(\d{1,4})-(\d{1,4})\.orsr", re.ASCII)
 
 
 def parser() -> Parser:
-    """The command line of this tool."""
+    """Returns the command line of this tool."""
     options = Parser(
         dedent(
             """\
@@ -38,7 +38,7 @@ def parser() -> Parser:
 
 
 def found_of(name: str, read: Recording, path: Path) -> Found:
-    """What the line beside a stretch says, once the stretch is found to be one of the recording."""
+    """Returns what the line beside a stretch says, once the stretch is found to be one of the recording."""
     match = NAME.fullmatch(path.name)
     first, last = (int(match[1]), int(match[2])) if match else (0, 0)
     if not first < last < len(read.checkpoints):

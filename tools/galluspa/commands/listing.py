@@ -21,7 +21,7 @@ LEAST_NAMED, MOST_LABELS = 0x100, 20
 
 
 def parser() -> Parser:
-    """The command line of this tool."""
+    """Returns the command line of this tool."""
     options = Parser(
         "Lists instructions: the number of each word, the word, its mnemonic, and what it does.",
         "galluspa listing --words 8 --markdown examples/hello.json",
@@ -53,7 +53,7 @@ def parser() -> Parser:
 
 
 def recording_of(program: Program, path: Path) -> Recording:
-    """The recording in a file, or that of the initial state of the session in it."""
+    """Returns the recording in a file, or that of the initial state of the session in it."""
     text = read_file(path)
     if text.startswith(b"ORSR"):
         return recording.lawful(program, str(path), text)
@@ -64,7 +64,7 @@ def recording_of(program: Program, path: Path) -> Recording:
 
 
 def first_state_alone(text: bytes) -> bytes:
-    """The session of a session's initial state, with nothing to run; a text that is none stays as it is."""
+    """Returns the session of a session's initial state, with nothing to run; a text that is none stays as it is."""
     session = parsed(text)
     if not isinstance(session, dict) or not session.keys() >= {"inputs", "checkpoints"}:
         return text
@@ -81,7 +81,7 @@ def words_of(read: Recording, checkpoint: Checkpoint, first: int, number: int | 
 
 
 def line_of(at: int, word: int, is_markdown: bool, remark: str = "") -> str:
-    """The line of a word, in a list or in a table, with what is said of it by name."""
+    """Returns the line of a word, in a list or in a table, with what is said of it by name."""
     decoded = instruction(word, at)
     if is_markdown:
         named = f"; {_for_markdown(remark)}" if remark else ""
@@ -90,12 +90,12 @@ def line_of(at: int, word: int, is_markdown: bool, remark: str = "") -> str:
 
 
 def _for_markdown(text: str) -> str:
-    """A name as it is in a table: no sign of it means anything there."""
+    """Returns a name as it is in a table: no sign of it means anything there."""
     return "".join(f"&#{ord(it)};" if it in "\\`*_[]|~<>&!" else it for it in text)
 
 
 def remark_on(symbols: Symbols, at: int, word: int, before: int) -> str:
-    """What is said of a word by name: where a branch goes, or which constant or data a move has, perhaps with the move
+    """Returns what is said of a word by name: where a branch goes, or which constant or data a move has, perhaps with the move
     of the upper half before it; and the line of its source."""
     target, value = branches_to(word, at), moved(word, before)
     named = "" if target is None else symbols.text(4 * target)
@@ -105,14 +105,14 @@ def remark_on(symbols: Symbols, at: int, word: int, before: int) -> str:
 
 
 def labels_at(symbols: Symbols, at: int, is_markdown: bool) -> Iterator[str]:
-    """A line for each name of the bytes of a word."""
+    """Yields a line for each name of the bytes of a word."""
     for byte in range(4 * at, 4 * at + 4):
         for it in symbols.exactly(byte)[:MOST_LABELS]:
             yield f"| | | {_for_markdown(shown(it.name))}: | |" if is_markdown else f"{shown(it.name)}:"
 
 
 def listed(symbols: Symbols, words: Iterator[tuple[int, int]], asked: Namespace) -> Iterator[str]:
-    """The lines of words, with the names of their addresses before them. In a source, names are comments."""
+    """Yields the lines of words, with the names of their addresses before them. In a source, names are comments."""
     before = 0
     for at, word in words:
         labels = labels_at(symbols, at, asked.markdown)

@@ -1,25 +1,59 @@
-"""Opens the live machine in a browser."""
+"""Opens the live machine in a browser, perhaps with a recording or a session."""
 
+import tempfile
 import webbrowser
 from argparse import Namespace
+from pathlib import Path
+from textwrap import dedent
 
 from galluspa import places
-from galluspa.command import OK, Parser, Refused
+from galluspa.command import OK, Parser, Refused, read_file, with_libraries, write_file
 from galluspa.escapes import printable
+from galluspa.limits import Limit
+from galluspa.program import ACCEPTED, REFUSED, Program
 
 
 def parser() -> Parser:
-    """The command line of this tool."""
-    return Parser(
-        "Prints where the page of the live machine is, and opens it in a browser. It needs no network.",
-        "galluspa live",
+    """Returns the command line of this tool."""
+    options = Parser(
+        dedent(
+            """\
+            Prints where the page of the live machine is, and opens it in a browser. It needs no network. With a
+            recording or a session, it writes a page with the machine and this file, in a new temporary folder,
+            and opens that one: the machine is at the initial state, and Run plays the file."""
+        ),
+        "galluspa live examples/snake.json",
         {OK: "a browser has the page"},
     )
+    options.add_argument("file", metavar="FILE", type=Path, nargs="?", help="a recording or a session")
+    options.add_argument("-o", metavar="PAGE", dest="output", type=Path, help="write the page of FILE here, and open it")
+    options.add_limit_option("with FILE, end after so many seconds")
+    options.add_program_option()
+    return options
+
+
+def page_of(asked: Namespace) -> Path:
+    """Writes the page of a file, and returns where it is."""
+    program, text = Program.find(asked.program, Limit(asked.limit)), read_file(asked.file)
+    if not text.startswith(b"ORSR"):
+        answer = program.record(text)
+        if answer.status != ACCEPTED:
+            raise Refused(f"{asked.file}: neither a recording nor a session: {answer.line}")
+        text = answer.output
+    answer = program.check(text)
+    if answer.status == REFUSED:
+        raise Refused(f"{asked.file}: {answer.line}")
+    content = "".join(with_libraries("galluspa.livepage").page(printable(asked.file.name), text, answer.line)).encode()
+    page = asked.output or Path(tempfile.mkdtemp(prefix="galluspa-"), f"{asked.file.stem}.html")
+    write_file(page, content)
+    return page.resolve()
 
 
 def main(asked: Namespace) -> int:
     """Opens the page."""
-    page = places.page()
+    if asked.output and not asked.file:
+        raise Refused("use -o with FILE")
+    page = page_of(asked) if asked.file else places.page()
     if not page.is_file():
         raise Refused(f"{page}: no live page")
     print(printable(str(page)), flush=True)

@@ -7,7 +7,7 @@ from galluspa.command import OK, REFUSED, Parser
 
 
 def parser() -> Parser:
-    """The command line of this tool."""
+    """Returns the command line of this tool."""
     return answers.parser(
         "Prints a recording in the current version of the format, with the same verdict line. It replays nothing.",
         "galluspa migrate examples/face-version-1.orsr -o face.orsr",

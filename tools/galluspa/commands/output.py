@@ -12,7 +12,7 @@ from galluspa.sessions import CHECKPOINTS
 
 
 def parser() -> Parser:
-    """The command line of this tool."""
+    """Returns the command line of this tool."""
     options = Parser(
         dedent(
             """\

@@ -16,7 +16,7 @@ from galluspa.version import last_commit, of_commit
 
 
 def parser() -> Parser:
-    """The command line of this tool."""
+    """Returns the command line of this tool."""
     options = Parser(
         dedent(
             """\

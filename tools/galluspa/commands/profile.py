@@ -22,7 +22,7 @@ from galluspa.symbols import Symbols, symbols_for
 
 
 def parser() -> Parser:
-    """The command line of this tool."""
+    """Returns the command line of this tool."""
     options = Parser(
         dedent(
             """\
@@ -60,7 +60,7 @@ def parser() -> Parser:
 
 
 def profiled(library: Library, path: Path, asked: Namespace, symbols: Symbols) -> Profile:
-    """The profile of a recording."""
+    """Returns the profile of a recording."""
     try:
         run = run_of(library, read_file(path))
     except Refused as refusal:

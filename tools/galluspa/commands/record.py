@@ -7,7 +7,7 @@ from galluspa.command import OK, REFUSED, Parser
 
 
 def parser() -> Parser:
-    """The command line of this tool."""
+    """Returns the command line of this tool."""
     return answers.parser(
         "Runs a session (JSON) on the machine, and prints its recording. Lines on standard error explain a refusal.",
         "galluspa record examples/hello.json -o hello.orsr",

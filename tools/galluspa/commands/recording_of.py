@@ -19,7 +19,7 @@ LONGEST_PAGE = 1 << 28
 
 
 def parser() -> Parser:
-    """The command line of this tool."""
+    """Returns the command line of this tool."""
     options = Parser(
         dedent(
             """\
@@ -34,7 +34,7 @@ def parser() -> Parser:
 
 
 def recording_in(name: str, page: bytes) -> bytes:
-    """The bytes of the recording that a report holds, whoever wrote it."""
+    """Returns the bytes of the recording that a report holds, whoever wrote it."""
     found = RECORDING.findall(page)
     if not found:
         raise Refused(f"{name}: no recording in this page: galluspa report --live makes pages with one")

@@ -65,6 +65,14 @@ def parser() -> Parser:
         help="begin with the machine at count N: its screen, registers, next instruction and, with "
         "names, who probably called; it needs the library",
     )
+    options.add_argument(
+        "--source",
+        metavar="FILE",
+        type=Path,
+        action="append",
+        default=[],
+        help="with --live, put this source into the page, which shows its lines beside the instructions; once for each file",
+    )
     options.add_symbols_option()
     options.add_limit_option("end after so many seconds, with what was found by then")
     options.add_program_option()
@@ -76,10 +84,12 @@ def main(asked: Namespace) -> int:
     """Prints the report that was asked for; the status is that of the verdict line."""
     if asked.text and asked.live:
         raise Refused("use --text or --live: a text cannot check a recording again")
+    if asked.source and not asked.live:
+        raise Refused("use --source with --live: only the live page shows sources")
     program, text = Program.find(asked.program, Limit(asked.limit)), read_file(asked.recording)
     symbols, note = symbols_for(asked.symbols, asked.recording), Note.of(asked.title, asked.note)
     report = with_libraries("galluspa.page").Report.of(program, asked.recording.name, text, asked.library, symbols)
-    report = replace(report, note=note, at=asked.at)
+    report = replace(report, note=note, at=asked.at, sources=asked.source)
     if asked.text:
         sys.stdout.writelines(f"{line}\n" for line in report.plain())
     else:

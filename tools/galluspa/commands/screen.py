@@ -7,7 +7,7 @@ from galluspa.command import OK, REFUSED, Parser
 
 
 def parser() -> Parser:
-    """The command line of this tool."""
+    """Returns the command line of this tool."""
     options = answers.parser(
         "Prints the screen that a checkpoint claims, as a binary PBM. It does not test whether the claim is true:\n"
         "`galluspa check` does. `galluspa film --at K` makes a PNG of the screen.",

@@ -15,7 +15,7 @@ from galluspa.symbols import Symbols, address_of, symbols_for
 
 
 def parser() -> Parser:
-    """The command line of this tool."""
+    """Returns the command line of this tool."""
     options = Parser(
         dedent(
             """\
@@ -91,7 +91,7 @@ def check_counts(listed: str | None, every: int | None, until: int | None, end: 
 
 
 def counts_of(listed: str | None, every: int | None, until: int | None, end: int | None) -> list[int]:
-    """The counts of checkpoints: as listed, or every so many, or up to the end of the run."""
+    """Returns the counts of checkpoints: as listed, or every so many, or up to the end of the run."""
     counts: Sequence[int]
     if listed is not None:
         counts = _listed(listed)
@@ -115,7 +115,7 @@ def _listed(listed: str) -> list[int]:
 
 
 def with_number(assignment: str, symbols: Symbols) -> str:
-    """An assignment, with the number of a word in place of its name as the value of PC."""
+    """Returns an assignment, with the number of a word in place of its name as the value of PC."""
     name, _, value = assignment.partition("=")
     if name.strip().upper() != "PC" or number(value) is not None:
         return assignment
@@ -129,7 +129,7 @@ def with_number(assignment: str, symbols: Symbols) -> str:
 
 
 def end_of(asked: Namespace, session: Session) -> int:
-    """The count at which the run of a session ends as it is asked."""
+    """Returns the count at which the run of a session ends as it is asked."""
     end = endings.end_of(asked, session, asked.end, asked.most)
     if asked.every and end // asked.every >= CHECKPOINTS:
         raise Refused(f"--every {asked.every:,}: {end:,} instructions have more than {CHECKPOINTS:,} checkpoints")

@@ -12,7 +12,7 @@ from galluspa.stretches import stretch
 
 
 def parser() -> Parser:
-    """The command line of this tool."""
+    """Returns the command line of this tool."""
     options = Parser(
         dedent(
             """\

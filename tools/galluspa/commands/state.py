@@ -11,10 +11,10 @@ from pathlib import Path
 from textwrap import dedent
 
 from galluspa import inspection
-from galluspa.addresses import address_in_memory
-from galluspa.command import OK, Failed, Parser, Refused, number, whole_number, write_file
+from galluspa.addresses import MEMORY_WORDS, address_in_memory, words_asked
+from galluspa.command import OK, Failed, Parser, Refused, whole_number, write_file
 from galluspa.inspection import STACK_WORDS
-from galluspa.library import WORDS, Library, Machine
+from galluspa.library import Library, Machine
 from galluspa.limits import Limit, TimeIsUp
 from galluspa.naming import placed_lines
 from galluspa.program import Program
@@ -22,12 +22,9 @@ from galluspa.sessions import COUNTS
 from galluspa.symbols import Symbols, symbols_for
 from galluspa.tracing import Run
 
-# So many words of memory are shown if their number is not said.
-MEMORY_WORDS = 8
-
 
 def parser() -> Parser:
-    """The command line of this tool."""
+    """Returns the command line of this tool."""
     options = Parser(
         dedent(
             """\
@@ -64,19 +61,8 @@ def parser() -> Parser:
     return options
 
 
-def parted(text: str) -> tuple[str, int]:
-    """The address and the number of words that ADDRESS[,WORDS] says."""
-    address, comma, words = text.rpartition(",")
-    if not comma:
-        return text, MEMORY_WORDS
-    wanted = number(words)
-    if wanted is None or not 1 <= wanted <= WORDS:
-        raise Refused(f"--memory {text}: {words!r} is not a number of words from 1 to {WORDS:,}")
-    return address, wanted
-
-
 def shown(run: Run, machine: Machine, asked: Namespace, symbols: Symbols) -> Iterator[str]:
-    """The lines that show a machine, and what was asked for of its memory."""
+    """Yields the lines that show a machine, and what was asked for of its memory."""
     state = machine.seen()
     yield inspection.status_line(state)
     if not state.stop:
@@ -85,7 +71,7 @@ def shown(run: Run, machine: Machine, asked: Namespace, symbols: Symbols) -> Ite
     yield from inspection.register_lines(state, symbols)
     yield from inspection.device_lines(state)
     for text in asked.memory:
-        address, words = parted(text)
+        address, words = words_asked(text)
         yield ""
         yield from inspection.memory_lines(machine, address_in_memory(address, state, symbols), words, symbols)
     if asked.stack:
@@ -96,10 +82,10 @@ def shown(run: Run, machine: Machine, asked: Namespace, symbols: Symbols) -> Ite
 
 
 def as_object(machine: Machine, asked: Namespace, symbols: Symbols) -> dict[str, object]:
-    """The same for machines."""
+    """Returns the same for machines."""
     found, state = inspection.as_object(machine, symbols), machine.seen()
     if asked.memory:
-        places = [(address_in_memory(address, state, symbols), words) for address, words in map(parted, asked.memory)]
+        places = [(address_in_memory(address, state, symbols), words) for address, words in map(words_asked, asked.memory)]
         found["memory"] = [inspection.memory_objects(machine, address, words, symbols) for address, words in places]
     if asked.stack:
         found["stack"] = inspection.memory_objects(machine, state.registers[14], STACK_WORDS, symbols)

@@ -19,7 +19,7 @@ from galluspa.tracing import Run
 
 
 def parser() -> Parser:
-    """The command line of this tool."""
+    """Returns the command line of this tool."""
     options = Parser(
         dedent(
             """\
@@ -47,7 +47,7 @@ def parser() -> Parser:
 
 
 def memory_of(asked: Namespace) -> bytes:
-    """The memory that is asked for, with all its bytes."""
+    """Returns the memory that is asked for, with all its bytes."""
     text = read_file(asked.oberon)
     if text.startswith(b"ORSR"):
         return _recorded(asked)
@@ -65,7 +65,7 @@ def memory_of(asked: Namespace) -> bytes:
 
 
 def _recorded(asked: Namespace) -> bytes:
-    """The memory of the machine in a recording's run."""
+    """Returns the memory of the machine in a recording's run."""
     limit = Limit(asked.limit)
     run = Run.checked(Library.find(asked.library, limit), Program.find(asked.program, limit), asked.oberon)
     at = run.counts[-1] if asked.at is None else asked.at

@@ -6,29 +6,30 @@ instructions of a long recording cost the check and one segment.
 """
 
 import json
+import sys
 from argparse import Namespace
 from pathlib import Path
 from textwrap import dedent
 
 from galluspa import recording
-from galluspa.command import FAILED, OK, WRONG, Failed, Parser, Refused, complain, read_file, whole_number
+from galluspa.command import FAILED, OK, WRONG, Failed, Parser, Refused, complain, read_file, whole_number, write_records
 from galluspa.conditions import CONDITIONS, conditions_of
 from galluspa.finding import Search
-from galluspa.interface import Machine
-from galluspa.library import Library
+from galluspa.library import Library, Machine
 from galluspa.limits import Limit, TimeIsUp
 from galluspa.naming import Trace
 from galluspa.program import Program
 from galluspa.recording import STOPS
 from galluspa.sessions import COUNTS
 from galluspa.symbols import Symbols, symbols_for
+from galluspa.traceformats import RECORD, JsonLines, record
 from galluspa.tracing import WORKERS, Run
 
 STEPS = 20
 
 
 def parser() -> Parser:
-    """The command line of this tool."""
+    """Returns the command line of this tool."""
     options = Parser(
         dedent(
             """\
@@ -77,7 +78,13 @@ def parser() -> Parser:
         "and the words at R14, since the machine has no frames",
     )
     options.add_symbols_option()
-    options.add_argument("--json", action="store_true", help="print one JSON object per line")
+    forms = options.add_mutually_exclusive_group()
+    forms.add_argument("--json", action="store_true", help="print one JSON object per line")
+    forms.add_argument(
+        "--binary",
+        action="store_true",
+        help=f"write a record of {RECORD.size} bytes for each instruction, for other programs; docs/debugging.md " "has its fields",
+    )
     options.add_limit_option("end after so many seconds, and say how far that was")
     options.add_program_option()
     options.add_library_option()
@@ -85,7 +92,7 @@ def parser() -> Parser:
 
 
 def run_of(asked: Namespace, limit: Limit) -> Run:
-    """The run of the recording that was named: from what is found true, or from one checkpoint whatever it claims."""
+    """Returns the run of the recording that was named: from what is found true, or from one checkpoint whatever it claims."""
     library, program = Library.find(asked.library, limit), Program.find(asked.program, limit)
     if asked.at is None:
         return Run.checked(library, program, asked.recording)
@@ -97,7 +104,7 @@ def run_of(asked: Namespace, limit: Limit) -> Run:
 
 
 def end_of(asked: Namespace, run: Run) -> int:
-    """The count to end at."""
+    """Returns the count to end at."""
     last = run.counts[-1]
     if asked.first > last:
         raise Refused(f"--from {asked.first} is after the last checkpoint, which is at {last}")
@@ -112,13 +119,23 @@ def end_of(asked: Namespace, run: Run) -> int:
     return to
 
 
-def show(machine: Machine, to: int, asked: Namespace, symbols: Symbols) -> None:
-    """Prints the instructions of a machine up to a count, each as it is done, and whether it has stopped after them."""
+def show(run: Run, machine: Machine, to: int, asked: Namespace, symbols: Symbols) -> None:
+    """Prints the instructions of a machine up to a count, and whether it has stopped after them."""
+    if asked.binary:
+        write_records(map(record, run.raw_steps(machine, to)))
+        return
     trace = Trace(symbols, memoryview(machine.memory()).cast("I") if asked.calls else None)
-    for step in machine.steps(to):
-        print(json.dumps(trace.object(step)) if asked.json else "\n".join(trace.lines(step)))
-    if machine.has_stopped and not asked.json:
-        print(f"{machine.count:>10}  stopped ({STOPS[machine.state.stop]}): it does nothing more")
+    if not asked.json:
+        for step in run.steps(machine, to):
+            print("\n".join(trace.lines(step)))
+        if machine.state.stop:
+            print(f"{machine.count:>10}  stopped ({STOPS[machine.state.stop]}): it does nothing more")
+    elif asked.calls:
+        for step in run.steps(machine, to):
+            print(json.dumps(trace.object(step)))
+    else:
+        line = JsonLines(symbols).line
+        sys.stdout.writelines(f"{line(step)}\n" for step in run.raw_steps(machine, to))
 
 
 def search(asked: Namespace, run: Run, it: Search, symbols: Symbols) -> int:
@@ -129,25 +146,27 @@ def search(asked: Namespace, run: Run, it: Search, symbols: Symbols) -> int:
         if not hit:
             complain(f"no {it.text} in {it.first_count}..{it.end}{it.why_not_later()}")
             return WRONG
-        machine = Machine(run, max(it.first_count, hit.count + 1 - (asked.steps or STEPS)))
+        machine = run.machine(max(it.first_count, hit.count + 1 - (asked.steps or STEPS)))
     except TimeIsUp as over:
         complain(f"{over}: no {it.text} in {it.first_count}..{it.reached()}")
         return FAILED
-    show(machine, hit.count + 1, asked, symbols)
+    show(run, machine, hit.count + 1, asked, symbols)
     return OK
 
 
 def main(asked: Namespace) -> int:
     """Prints the instructions that were asked for; the status is 1 if the condition of --until holds at none."""
+    if asked.binary and asked.calls:
+        raise Refused("leave out --calls: records of --binary have no names")
     symbols = symbols_for(asked.symbols, asked.recording)
     conditions = conditions_of(asked.until, symbols) if asked.until else []
     run = run_of(asked, Limit(asked.limit))
     to = end_of(asked, run)
     if conditions:
         return search(asked, run, Search(run, conditions, asked.first, to, WORKERS), symbols)
-    machine = Machine(run, asked.first)
+    machine = run.machine(asked.first)
     try:
-        show(machine, to, asked, symbols)
+        show(run, machine, to, asked, symbols)
     except TimeIsUp as over:
         raise Failed(f"{over}: the trace ends at {machine.count}") from over
     return OK

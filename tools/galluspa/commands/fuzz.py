@@ -1,0 +1,260 @@
+"""Finds a small program on which another emulator and the machine differ, by random sessions.
+
+COMMAND is the other emulator: a process that is kept, and answers sessions over its standard input and output; or, if an
+argument has {count} in it, a command for each session that prints its state, as for `galluspa bisect`. The exit status is
+0 if both are the same in all sessions, 1 if they differ in one, and 2 for bad input.
+"""
+
+import json
+import os
+import sys
+import time
+from argparse import Namespace
+from collections.abc import Iterator
+from dataclasses import dataclass, field
+from pathlib import Path
+from tempfile import TemporaryDirectory
+from textwrap import dedent
+from xml.etree import ElementTree
+
+from galluspa import states
+from galluspa.arena import MEMORY, RECORDING, SESSION, Arena, other_of
+from galluspa.command import OK, WRONG, Failed, Parser, Refused, complain, progress, whole_number, with_libraries, write_file
+from galluspa.coverage import CELLS
+from galluspa.coveragetext import lines
+from galluspa.emulators import PLACE
+from galluspa.escapes import for_tap
+from galluspa.findings import FETCH, Finding
+from galluspa.fuzzing import Broken, Plan, Tally, compared
+from galluspa.instructions import CONDITIONS, OPERATIONS
+from galluspa.library import Library
+from galluspa.limits import Limit
+from galluspa.trials import Trial
+
+SECONDS, ANSWER_SECONDS, SESSIONS, SEEDS = 60, 10, 1 << 40, 1 << 32
+# What TAP and JUnit have a test of each: the instructions by their names, and the fetch of no word.
+TESTS = [*OPERATIONS, "LDR", "LDB", "STR", "STB", *(f"B{name}" for name in CONDITIONS), FETCH]
+PARTS = [*states.REGISTERS, *states.WORDS, "keys", "out", "memory"]
+# What it is kept of a session that the other emulator does not answer.
+UNANSWERED = "unanswered.json"
+
+
+@dataclass
+class Result:
+    """What a run of the tool found, in so many seconds: what was done, the differences, and the folder of each."""
+
+    seed: int
+    tally: Tally = field(default_factory=Tally)
+    found: list[tuple[Finding, Path]] = field(default_factory=list)
+    seconds: float = 0.0
+
+    @property
+    def summary(self) -> str:
+        """Returns what was done, in a line."""
+        number = len(self.found)
+        found = f"{number} {'difference' if number == 1 else 'differences'}" if number else "no difference"
+        tally = self.tally
+        return f"seed {self.seed}: {tally.trials:,} sessions, {tally.instructions:,} instructions in {self.seconds:.0f} s, {found}"
+
+    def of_test(self, name: str) -> list[tuple[Finding, Path]]:
+        """Returns the differences after instructions of a name."""
+        return [it for it in self.found if it[0].key[0] == name]
+
+    def is_exercised(self, name: str) -> bool:
+        """Returns whether a measured session has such an instruction."""
+        tables = ("operations", "memory", "branches")
+        fetches = ("stops", "fetch, by a branch", "stopped")
+        if name == FETCH:
+            return bool(self.tally.seen.times[fetches])
+        return any(self.tally.seen.times[cell] for cell in CELLS if cell[0] in tables and cell[1] == name)
+
+
+def parser() -> Parser:
+    """Returns the command line of this tool."""
+    options = Parser(
+        dedent(
+            f"""\
+            Compares another emulator with the machine on random sessions, and makes the first one on which they
+            differ as small as it can: fewer instructions, inputs, pages and bits. It leaves a folder with the
+            session, its recording, its source, and what says which instruction differs, what it should give and
+            what it gave. COMMAND is a process that is kept and answers sessions over its standard input and output
+            (docs/debugging.md has the bytes). If {PLACE} is in an argument, it is a command for each session, as
+            for `galluspa bisect`; then {SESSION}, {RECORDING} and {MEMORY} stand for the names of files."""
+        ),
+        "galluspa fuzz --seconds 10 -- ./emulator",
+        {OK: "both are the same in all sessions", WRONG: "they differ in a session"},
+    )
+    options.add_argument("command", metavar="COMMAND", nargs="+", help="after --: the command and its arguments")
+    options.add_argument(
+        "--seconds", metavar="S", type=whole_number(1, 1 << 30), default=SECONDS, help=f"end after S seconds (default {SECONDS})"
+    )
+    options.add_argument("--seed", metavar="N", type=whole_number(0, SEEDS - 1), help="make the sessions of a seed again")
+    options.add_argument(
+        "--from", metavar="K", dest="first", type=whole_number(0, SESSIONS), default=0, help="begin with session K (default 0)"
+    )
+    options.add_argument("--sessions", metavar="N", type=whole_number(1, SESSIONS), help="end after N sessions")
+    options.add_argument(
+        "-j",
+        metavar="N",
+        dest="jobs",
+        type=whole_number(1, 256),
+        default=os.cpu_count() or 1,
+        help="run N processes side by side (default: as many as there are processors)",
+    )
+    options.add_argument(
+        "--most", metavar="N", type=whole_number(1, 1000), default=1, help="end after N different differences (default 1)"
+    )
+    options.add_argument(
+        "--ignore",
+        metavar="PART",
+        action="append",
+        choices=PARTS,
+        default=[],
+        help="leave a part out of the comparison, such as timer",
+    )
+    options.add_argument(
+        "--answer-seconds",
+        metavar="S",
+        type=whole_number(1, 1 << 20),
+        default=ANSWER_SECONDS,
+        help=f"how many seconds COMMAND may take for a session (default {ANSWER_SECONDS})",
+    )
+    options.add_argument(
+        "-o", metavar="FOLDER", dest="folder", type=Path, default=Path("fuzz"), help="where what is found goes (default: fuzz)"
+    )
+    options.add_argument("--tap", action="store_true", help="print TAP, a test for each instruction")
+    options.add_argument("--junit", metavar="FILE", help="write the same as JUnit XML, which CI systems read")
+    options.add_library_option()
+    return options
+
+
+def plan_of(asked: Namespace) -> Plan:
+    """Returns what the arguments ask for."""
+    seed = int.from_bytes(os.urandom(4), "little") if asked.seed is None else asked.seed
+    end = asked.first + (asked.sessions or SESSIONS)
+    return Plan(
+        Library.find(asked.library),
+        asked.command,
+        asked.answer_seconds,
+        frozenset(asked.ignore),
+        seed,
+        range(asked.first, end),
+        asked.jobs,
+    )
+
+
+def try_once(plan: Plan) -> None:
+    """Sees that the other emulator answers at all."""
+    with TemporaryDirectory(prefix="galluspa-") as folder:
+        other = other_of(plan.words, plan.seconds, plan.library, Path(folder))
+        try:
+            Arena(plan.library, other, plan.ignored).parting(Trial((0,) * 16, {}, 1))
+        finally:
+            other.close()
+
+
+def compare(plan: Plan, asked: Namespace) -> Result:
+    """Compares until the time is over, or enough is found."""
+    result, begun, limit = Result(plan.seed), time.monotonic(), Limit(asked.seconds)
+    for message in compared(plan, limit):
+        if isinstance(message, Tally):
+            result.tally.add(message)
+        elif isinstance(message, Broken):
+            raise _broken(message, asked.folder)
+        elif message and message.key not in {it.key for it, _ in result.found}:
+            result.found.append((message, leave(message, asked.folder)))
+        result.seconds = time.monotonic() - begun
+        progress(f"{result.summary}, {result.tally.trials / max(result.seconds, 0.1):,.0f} sessions a second")
+        if len(result.found) >= asked.most:
+            break
+    progress("")
+    return result
+
+
+def _broken(broken: Broken, folder: Path) -> Refused:
+    """Returns why the comparison can't go on; the session is kept."""
+    kind = Failed if broken.is_failure else Refused
+    if not broken.trial:
+        return kind(broken.reason)
+    path = made(folder) / UNANSWERED
+    write_file(path, broken.trial.session().text().encode())
+    return kind(f"{broken.origin}, kept as {path}: {broken.reason}")
+
+
+def made(folder: Path) -> Path:
+    """Returns a folder, which is made if it is not there."""
+    try:
+        folder.mkdir(parents=True, exist_ok=True)
+    except OSError as error:
+        raise Failed(f"{folder}: {error.strerror}") from error
+    return folder
+
+
+def leave(finding: Finding, folder: Path) -> Path:
+    """Writes what is found into a folder of its own."""
+    own = folder / "-".join(finding.key)
+    made(own)
+    for name, content in finding.files().items():
+        write_file(own / name, content)
+    try:
+        page = with_libraries("galluspa.findingpage").page(finding)
+        write_file(own / "difference.html", "".join(page).encode())
+    except Refused as refusal:
+        if isinstance(refusal, Failed):
+            raise
+        complain(f"no page is written: {refusal}")
+    return own
+
+
+def text(result: Result) -> Iterator[str]:
+    """Yields what was found, and what was exercised."""
+    for finding, folder in result.found:
+        yield from finding.shown()
+        yield from ("", f"{folder} has it: {', '.join(sorted(it.name for it in folder.iterdir()))}", "")
+    yield result.summary
+    if not result.found:
+        measured = f"exercised, as {result.tally.measured:,} of these sessions were measured:"
+        yield from lines(measured, (), result.tally.seen, False)
+
+
+def tap(result: Result) -> Iterator[str]:
+    """Yields the same as TAP."""
+    yield from ("TAP version 13", f"1..{len(TESTS)}", f"# {result.summary}")
+    for number, name in enumerate(TESTS, 1):
+        found = result.of_test(name)
+        if not found:
+            skipped = "" if result.is_exercised(name) else " # SKIP not in the sessions that were measured"
+            yield f"ok {number} - {name}{skipped}"
+            continue
+        yield from (f"not ok {number} - {name}", "  ---")
+        for finding, folder in found:
+            yield f"  {json.dumps(for_tap(str(folder)))}: {json.dumps(finding.headline)}"
+        yield "  ..."
+
+
+def junit(result: Result) -> bytes:
+    """Returns the same as JUnit XML."""
+    wrong = sum(bool(result.of_test(name)) for name in TESTS)
+    counted = {"name": "fuzz", "tests": str(len(TESTS)), "failures": str(wrong), "time": f"{result.seconds:.3f}"}
+    top = ElementTree.Element("testsuites")
+    tests = ElementTree.SubElement(top, "testsuite", counted)
+    for name in TESTS:
+        test = ElementTree.SubElement(tests, "testcase", {"classname": "fuzz", "name": name})
+        for finding, _ in result.of_test(name):
+            ElementTree.SubElement(test, "failure", {"message": finding.headline}).text = "\n".join(finding.shown())
+        if not result.of_test(name) and not result.is_exercised(name):
+            ElementTree.SubElement(test, "skipped")
+    ElementTree.SubElement(tests, "system-out").text = result.summary
+    ElementTree.indent(top)
+    return ElementTree.tostring(top, "utf-8", xml_declaration=True) + b"\n"
+
+
+def main(asked: Namespace) -> int:
+    """Compares the other emulator with the machine."""
+    plan = plan_of(asked)
+    try_once(plan)
+    result = compare(plan, asked)
+    sys.stdout.writelines(f"{line}\n" for line in (tap(result) if asked.tap else text(result)))
+    if asked.junit:
+        write_file(asked.junit, junit(result))
+    return WRONG if result.found else OK

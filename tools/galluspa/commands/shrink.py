@@ -1,0 +1,153 @@
+"""Makes a session small, as long as a command says that it is still wrong.
+
+COMMAND runs for each session that is tried. As `git bisect run` has it, its exit status is 0 if the session is right, 1 to
+124 if it is still wrong, and 125 if that can't be said; any other status ends the tool. The smallest session that is still
+wrong is printed, or written to a file. The exit status is 0 if there is one, and 2 for bad input.
+"""
+
+import shlex
+import sys
+from argparse import Namespace
+from collections.abc import Sequence
+from dataclasses import dataclass
+from pathlib import Path
+from tempfile import TemporaryDirectory
+from textwrap import dedent
+
+from galluspa import children, recording, sessions
+from galluspa.arena import RECORDING, SESSION, files_of, replaced
+from galluspa.command import OK, Parser, Refused, complain, progress, whole_number, write_file
+from galluspa.emulators import LONGEST, PLACE
+from galluspa.initial import recording_of
+from galluspa.library import Library
+from galluspa.limits import Limit, TimeIsUp
+from galluspa.program import Program
+from galluspa.reduction import Reducer
+from galluspa.sessions import COUNTS
+from galluspa.trials import Trial
+
+SECONDS, ANSWER_SECONDS = 600, 60
+RIGHT, LAST_WRONG, UNKNOWN = 0, 124, 125
+
+
+@dataclass
+class Question:
+    """Whether a trial is still wrong: the words of the command, how long it may take, when all has to be done, and the
+    smallest trial that is."""
+
+    words: Sequence[str]
+    seconds: float
+    library: Library
+    folder: Path
+    limit: Limit
+    smallest: Trial
+    asked: int = 0
+
+    def is_wrong(self, trial: Trial) -> bool:
+        """Returns whether the command says that a trial is still wrong."""
+        if not trial.count:
+            return False
+        self.limit.left()
+        self.asked += 1
+        status = self._status(trial)
+        if status == RIGHT or status == UNKNOWN:
+            return False
+        if not RIGHT < status <= LAST_WRONG:
+            ended_by = f"ended by signal {-status}" if status < 0 else f"ended with status {status}"
+            raise Refused(f"{shlex.join(self.words)}: {ended_by}, which says neither right (0) nor still wrong (1 to {LAST_WRONG})")
+        self.smallest = trial
+        progress(f"run {self.asked}: {size_of(trial)}")
+        return True
+
+    def _status(self, trial: Trial) -> int:
+        files = {**files_of(self.words, trial, self.library, self.folder), PLACE: str(trial.count)}
+        words = [replaced(word, files) for word in self.words]
+        try:
+            return children.output_of(words, limit=Limit(self.seconds), most=LONGEST).status
+        except OSError as error:
+            raise Refused(f"{words[0]}: {error.strerror}") from error
+        except TimeIsUp as over:
+            # A session that is tried may well run on for ever; the first one may not.
+            if self.asked > 1:
+                return UNKNOWN
+            raise Refused(f"{shlex.join(words)}: {over}") from over
+        except children.TooLong as error:
+            raise Refused(f"{shlex.join(words)}: prints more than {LONGEST:,} bytes") from error
+
+
+def size_of(trial: Trial) -> str:
+    """Returns how large a trial is."""
+    numbers = {"instruction": trial.count, "input": len(trial.inputs), "page": len(trial.pages), "word": len(trial.words())}
+    return ", ".join(f"{number:,} {noun}{'s' * (number != 1)}" for noun, number in numbers.items())
+
+
+def parser() -> Parser:
+    """Returns the command line of this tool."""
+    options = Parser(
+        dedent(
+            f"""\
+            Makes a session small: it ends earlier, begins later, and has fewer inputs, pages, words and bits, as
+            long as COMMAND says that it is still wrong. In the arguments of COMMAND, {SESSION} stands for the
+            name of a session, {RECORDING} for that of its recording, and {PLACE} for its last count. As with
+            `git bisect run`, the exit status of COMMAND is 0 if the session is right, 1 to {LAST_WRONG} if it is still
+            wrong, and {UNKNOWN} if that can't be said, which is also meant if it takes too long."""
+        ),
+        f"galluspa shrink examples/face.json -o small.json -- ./is-wrong {SESSION}",
+        {OK: "the smallest session is printed"},
+    )
+    options.add_argument("session", metavar="SESSION", type=Path, help="a session, or a recording")
+    options.add_argument("command", metavar="COMMAND", nargs="+", help="after --: the command and its arguments")
+    options.add_argument("-o", metavar="FILE", dest="output", help="write the session into a file")
+    options.add_argument(
+        "--to", metavar="N", type=whole_number(1, COUNTS), help="the last count (default: that of the last checkpoint)"
+    )
+    options.add_argument(
+        "--answer-seconds",
+        metavar="S",
+        type=whole_number(1, 1 << 20),
+        default=ANSWER_SECONDS,
+        help=f"how many seconds COMMAND may take each time (default {ANSWER_SECONDS})",
+    )
+    options.add_limit_option("end after so many seconds with the smallest session until then")
+    options.add_program_option()
+    options.add_library_option()
+    return options
+
+
+def trial_of(asked: Namespace) -> Trial:
+    """Returns the trial of the file that the arguments name."""
+    text, last = recording_of(Program.find(asked.program), asked.session)
+    count = asked.to or last
+    if not count:
+        raise Refused(f"{asked.session}: no checkpoint: give --to N")
+    return Trial.of(sessions.of_recording(str(asked.session), recording.read(text)), count)
+
+
+def shrunk(question: Question, trial: Trial) -> str:
+    """Makes a trial small, and says why it is not done, if the time is over first."""
+    reducer = Reducer(question.library, question.is_wrong)
+    try:
+        reducer.smallest(reducer.earlier_end(trial))
+    except TimeIsUp:
+        return f"ended after {question.limit.seconds:g} s: it may get smaller (--limit)"
+    return ""
+
+
+def main(asked: Namespace) -> int:
+    """Prints the smallest session that is still wrong."""
+    if not any(name in word for word in asked.command for name in (SESSION, RECORDING)):
+        raise Refused(f"put {SESSION} or {RECORDING} into an argument of COMMAND")
+    trial, library = trial_of(asked), Library.find(asked.library)
+    with TemporaryDirectory(prefix="galluspa-") as folder:
+        question = Question(asked.command, asked.answer_seconds, library, Path(folder), Limit(asked.limit), trial)
+        if not question.is_wrong(trial):
+            raise Refused(f"{asked.session}: COMMAND does not say that it is wrong, by a status from 1 to {LAST_WRONG}")
+        over = shrunk(question, trial)
+    progress("")
+    text = question.smallest.session().text()
+    complain(f"{size_of(trial)} → {size_of(question.smallest)}, in {question.asked:,} runs" + f"; {over}" * bool(over))
+    if asked.output:
+        write_file(asked.output, text.encode())
+    else:
+        sys.stdout.write(text)
+    return OK

@@ -1,0 +1,248 @@
+"""Compares another emulator with the machine on random trials, in several processes, and makes small what differs."""
+
+import contextlib
+import os
+from collections.abc import Iterator, Sequence
+from dataclasses import dataclass, field, replace
+from itertools import count as numbers
+from multiprocessing import get_context
+from multiprocessing.connection import Connection, wait
+from multiprocessing.process import BaseProcess
+from pathlib import Path
+from tempfile import TemporaryDirectory
+
+from galluspa import children, recording
+from galluspa.arena import Arena, Parting, other_of
+from galluspa.command import Failed, Refused
+from galluspa.coverage import Coverage
+from galluspa.findings import Finding, finding_of, name_of
+from galluspa.library import Library
+from galluspa.limits import Limit
+from galluspa.randomtrials import BATCH, trials
+from galluspa.reduction import Reducer, ended
+from galluspa.steps import step_between
+from galluspa.trials import Trial
+
+# Of one in so many trials it is counted what they exercise.
+MEASURED = 16
+# So many trials are written at once to an emulator that is kept.
+AT_ONCE = 16
+# A process that is told to end has so many seconds.
+ENDING_SECONDS = 2.0
+
+
+@dataclass(frozen=True)
+class Plan:
+    """What is compared: the command of the other emulator, how long it may take for an answer, the parts that are not
+    compared, the seed, and the numbers of the trials."""
+
+    library: Library
+    words: Sequence[str]
+    seconds: float
+    ignored: frozenset[str]
+    seed: int
+    numbers: range
+    jobs: int
+
+
+@dataclass
+class Tally:
+    """What was done: how many trials and instructions, what those that were measured exercise, and how many these are."""
+
+    trials: int = 0
+    instructions: int = 0
+    measured: int = 0
+    seen: Coverage = field(default_factory=Coverage)
+
+    def add(self, more: "Tally") -> None:
+        """Adds what was done elsewhere."""
+        self.trials += more.trials
+        self.instructions += more.instructions
+        self.measured += more.measured
+        self.seen.instructions += more.seen.instructions
+        self.seen.times += more.seen.times
+        self.seen.first = {**more.seen.first, **self.seen.first}
+
+
+@dataclass(frozen=True)
+class Broken:
+    """Why a process can't go on: the session at which that is, if it is one, and the reason."""
+
+    trial: Trial | None
+    origin: str
+    reason: str
+    is_failure: bool = False
+
+
+Message = Tally | Finding | Broken
+
+
+class Comparison:
+    """What a process compares: its trials, one after another."""
+
+    def __init__(self, plan: Plan, folder: Path) -> None:
+        self.plan = plan
+        self.arena = Arena(plan.library, other_of(plan.words, plan.seconds, plan.library, folder), plan.ignored)
+        self.known: set[tuple[str, str]] = set()
+        self._trial: Trial | None = None
+        self._origin = ""
+
+    def messages(self, process: int) -> Iterator[Message]:
+        """Yields what is found in the batches of a process, and what was done."""
+        plan = self.plan
+        try:
+            for batch in numbers(plan.numbers.start // BATCH + process, plan.jobs):
+                if batch * BATCH >= plan.numbers.stop:
+                    return
+                yield from self._of_batch(batch)
+        except Refused as refusal:
+            yield Broken(self._trial, self._origin, str(refusal), isinstance(refusal, Failed))
+        finally:
+            self.arena.other.close()
+
+    def _of_batch(self, batch: int) -> Iterator[Message]:
+        numbered = enumerate(trials(self.plan.seed, batch), batch * BATCH)
+        wanted = [(number, trial) for number, trial in numbered if number in self.plan.numbers]
+        for first in range(0, len(wanted), AT_ONCE):
+            tally, found = Tally(), list[Finding]()
+            some = wanted[first : first + AT_ONCE]
+            answers, refusal = self.arena.answers([trial for _, trial in some])
+            for (number, trial), answer in zip(some, answers, strict=True):
+                self._trial, self._origin = trial, f"session {number} of seed {self.plan.seed}"
+                parting = self.arena.parting(trial, answer)
+                tally.trials += 1
+                tally.instructions += trial.count
+                if number % MEASURED == 0:
+                    measure(self.plan.library, trial, self._origin, tally)
+                if parting and (finding := self._finding(trial)):
+                    found.append(finding)
+            yield tally
+            yield from found
+            if refusal:
+                raise Refused(f"answers {len(some)} sessions alone, but not one after another: {refusal}")
+        self._trial = None
+
+    def _finding(self, trial: Trial) -> Finding | None:
+        """Returns the difference of a trial, made small; None if it is one that is known already."""
+        self.arena.other.close()
+        first = next((count for count in range(trial.count + 1) if self.arena.parting(ended(trial, count))), None)
+        if first == 0:
+            raise Refused("differs before the first instruction: begin with the state and the pages of the session")
+        trial = ended(trial, first or trial.count)
+        difference = self._difference(trial, True)
+        if difference is None:
+            raise Refused("differs only after the sessions before it: keep nothing of one session for the next")
+        if difference[0] in self.known:
+            return None
+        self.known.add(difference[0])
+        small = self._smallest(trial, difference[0])
+        found = self._difference(small, True)
+        return finding_of(self.arena, small, found[1], found[2], self._origin) if found else None
+
+    def _smallest(self, trial: Trial, key: tuple[str, str]) -> Trial:
+        """Returns the trial made small. If what is left over from other trials has led astray, the emulator begins again
+        for each."""
+        for is_fresh in (False, True):
+
+            def is_still(candidate: Trial, is_fresh: bool = is_fresh) -> bool:
+                difference = self._difference(candidate, is_fresh)
+                return difference is not None and difference[0] == key
+
+            small = Reducer(self.plan.library, is_still).smallest(trial)
+            if is_still(small, True):
+                return small
+        return trial
+
+    def _difference(self, trial: Trial, is_fresh: bool) -> tuple[tuple[str, str], Parting, int | None] | None:
+        """Returns the instruction and the part in which a trial differs at its end, and not before its last instruction;
+        if it is fresh, with an emulator that begins anew for each of the two."""
+        try:
+            if self._parting(ended(trial, trial.count - 1), is_fresh):
+                return None
+            word = self.arena.next_word
+            parting = self._parting(trial, is_fresh)
+        except Refused:
+            return None
+        return ((name_of(word), parting.names[0]), parting, word) if parting else None
+
+    def _parting(self, trial: Trial, is_fresh: bool) -> Parting | None:
+        if is_fresh:
+            self.arena.other.close()
+        return self.arena.parting(trial)
+
+
+def measure(library: Library, trial: Trial, origin: str, tally: Tally) -> None:
+    """Counts what a trial exercises."""
+    session = replace(trial.session(), checkpoints=list(range(1, trial.count + 1)))
+    dense = recording.read(library.record(session.text().encode()))
+    pairs = zip(dense.checkpoints, dense.checkpoints[1:])
+    tally.seen.add(origin, (step_between(dense, before, after) for before, after in pairs))
+    tally.measured += 1
+
+
+def _work(plan: Plan, process: int, pipe: Connection, folder: Path) -> None:
+    """Does the work of a process, and sends what it finds."""
+    # A group of its own, so that what is typed into the terminal goes to the tool alone, which ends it.
+    os.setpgid(0, 0)
+    with contextlib.suppress(children.Signalled, BrokenPipeError):
+        children.begin_anew()
+        for message in Comparison(plan, folder).messages(process):
+            pipe.send(message)
+
+
+def compared(plan: Plan, limit: Limit) -> Iterator[Message | None]:
+    """Yields what several processes find, until the time is over; None now and then, if nothing is found."""
+    pipes, processes = list[Connection](), list[BaseProcess]()
+    with TemporaryDirectory(prefix="galluspa-") as folder:
+        try:
+            for process in range(plan.jobs):
+                with children.shielded():
+                    _begin(plan, process, Path(folder), pipes, processes)
+            while pipes and not limit.is_over:
+                ready = wait(pipes, children.WAIT_SECONDS)
+                if not ready:
+                    yield None
+                for pipe in [it for it in pipes if it in ready]:
+                    yield from _received(pipe, pipes, processes)
+        finally:
+            with children.shielded():
+                _end(processes)
+
+
+def _begin(plan: Plan, process: int, folder: Path, pipes: list[Connection], processes: list[BaseProcess]) -> None:
+    """Begins a process, with a pipe and a folder of its own."""
+    context = get_context("fork")
+    reader, writer = context.Pipe(duplex=False)
+    own = folder / f"{process}"
+    own.mkdir()
+    begun = context.Process(target=_work, args=(plan, process, writer, own), daemon=True)
+    begun.start()
+    writer.close()
+    processes.append(begun)
+    pipes.append(reader)
+
+
+def _received(pipe: Connection, pipes: list[Connection], processes: list[BaseProcess]) -> Iterator[Message]:
+    """Yields the next message of a process; one that has ended is taken out."""
+    try:
+        message: Message = pipe.recv()
+    except (EOFError, OSError):
+        at = pipes.index(pipe)
+        del pipes[at]
+        ended_one = processes.pop(at)
+        ended_one.join()
+        if ended_one.exitcode:
+            yield Broken(None, "", f"a process ended with status {ended_one.exitcode}", True)
+        return
+    yield message
+
+
+def _end(processes: Sequence[BaseProcess]) -> None:
+    """Ends processes, and what they run."""
+    for process in processes:
+        process.terminate()
+    for process in processes:
+        process.join(ENDING_SECONDS)
+        if process.is_alive():
+            process.kill()
+            process.join()
