@@ -1,10 +1,14 @@
 // @ts-check
 /* The registers of the machine, the checkpoints of a recording, and where the two differ. */
+import { bothOf } from "./addresses.js";
 import { app } from "./app.js";
-import { showAround, showListing } from "./code.js";
+import { showAround } from "./code.js";
+import { otherDifferences, whereWrong } from "./differences.js";
 import { attempt, button, el, grouped, made, named, paragraph } from "./elements.js";
+import { showListing } from "./listing.js";
 import { isAhead, lookAt, nowCount, runTo, shownCount, shownState } from "./look.js";
 import { ALL_BITS, showMemory } from "./memory.js";
+import { whereText } from "./names.js";
 import { DOTS_WIDE, LINES, paint } from "./screen.js";
 import { AT, equal, field, hex, PAGE_BYTES, partsOf, rangesText, REGISTERS, sentText, STATE_BYTES, wordsOf } from "./states.js";
 import { isTab, showTab } from "./tabs.js";
@@ -80,11 +84,12 @@ export function showRegisters(state) {
 function showParts(state, old) {
   const before = old && new Map(partsOf(old));
   for (const [name, plain] of partsOf(state)) {
-    const text = name === "PC" ? `${hex(4 * field(state, AT.PC), 4)} · ${plain}` : plain;
+    const text = name === "PC" ? bothOf(4 * field(state, AT.PC)) : plain;
     const { value, holder } = /** @type {{ value: HTMLElement, holder: HTMLElement }} */ (registerCells.get(name));
     if (holder.textContent !== text) {
       holder.textContent = text;
       if (holder !== value) holder.setAttribute("aria-label", `${name} ${text}: who wrote it`);
+      if (name === "PC") holder.title = whereText(4 * field(state, AT.PC));
     }
     value.classList.toggle("changed", Boolean(before && before.get(name) !== plain));
   }
@@ -204,9 +209,12 @@ export async function showFalse() {
   if (!wrong) return;
   const { count } = wrong, headline = made("b", headlineOf({ wrong, accepted: null }));
   if (shownCount() !== count || isAhead() || app.latest?.on)
-    return place.replaceChildren(headline, " ", button("What the machine has", () => toMachineAt(count)));
-  const both = await bothParts(wrong);
-  if (shownCount() === count) place.replaceChildren(headline, ...(both ? bothLines(both) : []));
+    return place.replaceChildren(headline, " ", button("What the machine has", () => toMachineAt(count)), whereWrong(wrong));
+  const both = await bothParts(wrong), mark = made("span", "");
+  if (shownCount() !== count) return;
+  place.replaceChildren(headline, ...(both ? bothLines(both) : []), whereWrong(wrong), mark);
+  const others = await otherDifferences(wrong, outputThatDiffers);
+  if (shownCount() === count) mark.replaceWith(...others);
 }
 
 /** Returns what the machine has at a false checkpoint, and what is claimed; or null if it is no part of a state, nor of memory.
@@ -268,7 +276,7 @@ async function outputThatDiffers({ number, count }) {
  * @param {number} page
  * @returns {Promise<BothParts | null>} */
 async function bytesThatDiffer({ number, count }, page) {
-  const from = PAGE_BYTES * page, claimed = await app.live.ask("claimedPage", { number, page, of: app.work.generation });
+  const from = PAGE_BYTES * page, claimed = await app.live.ask("claimedMemory", { number, from, length: PAGE_BYTES, of: app.work.generation });
   const own = await app.past.memory(count, from, PAGE_BYTES);
   if (!own || !claimed) return null;
   const [words, others] = [own.bytes.slice(), claimed].map(wordsOf), at = words.findIndex((word, number) => word !== others[number]);

@@ -1,13 +1,18 @@
 // @ts-check
-/* The code around PC, with its breakpoints, and the instructions that were done before the cursor and come after it. */
+/* The breakpoints, each with its name and how often it was hit, and the instructions that were done before the cursor and come after it. */
+import { bothOf } from "./addresses.js";
 import { app, send } from "./app.js";
+import { Callers } from "./callers.js";
 import { COUNTER } from "./conditions.js";
-import { button, el, grouped, made, notice, write } from "./elements.js";
+import { timesOf } from "./counts.js";
+import { button, el, grouped, made, many, notice, set, write } from "./elements.js";
 import { instruction } from "./instructions.js";
-import { lookAt, shownCount } from "./look.js";
+import { countCode, showCode, showWord } from "./listing.js";
+import { isAhead, lookAt, shownCount } from "./look.js";
 import { conditionsOfWatches, setWatches } from "./memory.js";
+import { names, placeText } from "./names.js";
 import { forgetFound, foundAt } from "./search.js";
-import { hex } from "./states.js";
+import { wordsOf } from "./states.js";
 import { stoppedAt } from "./stops.js";
 import { isTab } from "./tabs.js";
 
@@ -18,13 +23,6 @@ export const DONE_BEFORE = 12, DONE_AFTER = 6, MOST_BREAKS = 32;
 export let breaks = new Set();
 /** @type {[number, string][]} */
 let hits = [];
-/** A line of the listing, and what it shows.
- * @typedef {{ line: HTMLElement, gutter: HTMLButtonElement, place: HTMLElement, code: HTMLElement, meaning: HTMLElement, word: number | null,
- *   isHere: boolean | null }} Line */
-
-// The lines of the listing by their word numbers.
-/** @type {Map<number, Line>} */
-const listed = new Map();
 
 /** Forgets the hits after a count, or all of them.
  * @param {number} after */
@@ -40,20 +38,43 @@ export function toggleBreak(pc) {
   if (next.size > MOST_BREAKS) return notice(`There are ${MOST_BREAKS} breakpoints at most.`);
   breaks = next;
   sendBreaks();
-  for (const gutter of el("listing").querySelectorAll("button")) showBreak(gutter);
-  const counters = [...breaks].sort((one, other) => one - other).join(", ");
-  write("breaks", counters ? `Breakpoints at PC ${counters}.` : "Click beside an instruction to set a breakpoint.");
+  showBreaks();
+  showCode();
+}
+
+/** Shows the breakpoints as rows: where each is, by name and number, how often it was hit up to the count that is looked at, and a cross. */
+export function showBreaks() {
+  const rows = [...breaks].sort((one, other) => one - other).map(breakRow);
+  el("break-list").replaceChildren(...rows);
+  set("break-list", { hidden: !rows.length });
+  write("breaks", rows.length ? `${many(rows.length, "breakpoint")}:` : "Click beside an instruction, or write its address or name, to set a breakpoint.");
+}
+
+/** @param {number} pc */
+function breakRow(pc) {
+  const row = made("li", ""), name = placeText(4 * pc), drop = button("×", () => toggleBreak(pc)), go = button("", () => showWord(pc));
+  go.append(made("bdi", name || "no name"), ` ${bothOf(4 * pc)}`);
+  drop.setAttribute("aria-label", `Drop the breakpoint at ${name || pc}`);
+  row.dataset.pc = `${pc}`;
+  row.append(go, made("span", hitsText(pc), "hint"), drop);
+  return row;
+}
+
+/** @param {number} pc */
+function hitsText(pc) {
+  const times = timesOf(pc);
+  return times === null ? "" : `${many(times, "hit")} up to here`;
+}
+
+/** Writes anew how often each breakpoint was hit. */
+export function showHits() {
+  for (const row of el("break-list").querySelectorAll("li")) row.getElementsByClassName("hint")[0].textContent = hitsText(Number(row.dataset.pc));
 }
 
 /** Forgets breakpoints and watches: they are of another program. */
 export function forgetBreaks() {
   for (const pc of breaks) toggleBreak(pc);
   setWatches([]);
-}
-
-/** @param {HTMLButtonElement} gutter */
-function showBreak(gutter) {
-  gutter.setAttribute("aria-pressed", String(breaks.has(Number(gutter.dataset.pc))));
 }
 
 /** The conditions of all breakpoints and watches. */
@@ -84,57 +105,24 @@ export function meetBreak({ generation, at, condition }) {
   if (generation === app.work.generation) return foundAt({ at, which: 0 }, [condition]);
 }
 
-/** Shows the instructions around a program counter, each with a place for a breakpoint. Lines that were shown before stay: a button that
- * were made anew between its press and its release would get no click.
- * @param {number} pc
- * @param {[number, number][]} listing */
-export function showListing(pc, listing) {
-  const shown = new Set(listing.map(([at]) => at)), place = el("listing");
-  for (const [at, { line }] of listed) if (!shown.has(at)) line.remove(), listed.delete(at);
-  listing.forEach(([at, word], number) => {
-    const known = listed.get(at), parts = known ?? newLine(at);
-    if (!known) place.insertBefore(parts.line, place.children[number] ?? null);
-    fillLine(parts, at, word, at === pc);
-  });
-  el("no-code").hidden = shown.has(pc);
-}
-
-/** Makes the line of an instruction.
- * @param {number} at */
-function newLine(at) {
-  const line = made("span", ""), gutter = made("button", "", "gutter"), place = made("span", ""), code = made("i", ""), meaning = made("span", "");
-  Object.assign(gutter, { type: "button", onclick: () => toggleBreak(at) });
-  gutter.dataset.pc = `${at}`;
-  showBreak(gutter);
-  line.append(gutter, place, code, meaning);
-  /** @type {Line} */
-  const parts = { line, gutter, place, code, meaning, word: null, isHere: null };
-  listed.set(at, parts);
-  return parts;
-}
-
-/** Writes an instruction to its line, unless it is there already.
- * @param {Line} parts
- * @param {number} at
- * @param {number} word
- * @param {boolean} isHere */
-function fillLine(parts, at, word, isHere) {
-  if (parts.word === word && parts.isHere === isHere) return;
-  const { line, gutter, place, code, meaning } = Object.assign(parts, { word, isHere }), [mnemonic, means] = instruction(word, at);
-  gutter.setAttribute("aria-label", `breakpoint at ${at}, ${mnemonic}`);
-  place.textContent = `${isHere ? "▸" : " "}${`${at}`.padStart(6)}  `;
-  code.textContent = `${hex(word, 8)}  `;
-  meaning.textContent = `${mnemonic.padEnd(20)} ${means}\n`;
-  line.classList.toggle("here", isHere);
-}
-
 /** Shows what the instructions around the cursor did, if that is to be seen. */
 export async function showAround() {
-  if (app.latest?.on) return write("trace", "Pause the machine to see what it did.");
+  if (app.latest?.on) return write("calls", ""), write("trace", "Pause the machine to see what it did.");
   if (!app.latest || !isTab("code")) return;
   const now = shownCount(), at = Math.min(now, stoppedAt() ?? now);
   const done = await app.past.around(at, Math.min(DONE_BEFORE, at), DONE_AFTER);
   if (done && now === shownCount() && !app.latest.on) el("trace").replaceChildren(...done.map((one) => doneLine(one, at)));
+  const callers = await callersAt(now);
+  if (callers && now === shownCount() && !app.latest.on) write("calls", callers);
+  countCode();
+}
+
+/** Says where the machine is at a count, and who probably called that; nothing without names, or if nobody seems to have called it.
+ * @param {number} at */
+export async function callersAt(at) {
+  const moment = names.symbols.size && !(isAhead() && at === shownCount()) ? await app.past.moment(at) : null;
+  const places = moment ? new Callers(wordsOf(moment.words), names.symbols).of(moment.state) : [];
+  return places.length > 1 ? `probably: ${places.join(" < ")}` : "";
 }
 
 /**
@@ -143,7 +131,8 @@ export async function showAround() {
  */
 function doneLine({ count, pc, word, changes }, at) {
   const line = made("div", "", count === at ? "here" : ""), go = button(grouped(count), () => lookAt(count));
-  const changed = changes.map(([name, old, now]) => `${name} ${old} → ${now}`).join("; ");
-  line.append(go, ` ${`${pc}`.padStart(6)}  ${(word === null ? "outside memory" : instruction(word, pc)[0]).padEnd(20)} ${changed}`);
+  const changed = changes.map(([name, old, now]) => `${name} ${old} → ${now}`).join("; "), name = placeText(4 * pc);
+  line.append(go, ` ${bothOf(4 * pc).padStart(13)}  ${(word === null ? "outside memory" : instruction(word, pc)[0]).padEnd(20)} ${changed}`);
+  if (name) line.append(made("bdi", `  ; ${name}`, "remark"));
   return line;
 }

@@ -10,6 +10,7 @@ import { isPast, lookAtNow, showLook, showMode } from "./look.js";
 import { setToGoOn } from "./running.js";
 import { drawSoon, endPreview } from "./screen.js";
 import { followGame, isSnake, pointsOf } from "./snake.js";
+import { showSourceNow } from "./source.js";
 import { AT, countOf, field } from "./states.js";
 import { findStop, stopText } from "./stops.js";
 import { beginLanes, noteFrame, showCursor } from "./timeline.js";
@@ -66,7 +67,7 @@ function showFrame(frame) {
   showStatus(frame);
   showSerial(frame.serial);
   if (wasOn && !frame.on) keep();
-  if (wasOn !== frame.on) attempt(showAround);
+  if (wasOn !== frame.on) attempt(showAround), showSourceNow();
   findStop();
 }
 

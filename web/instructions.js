@@ -1,13 +1,10 @@
 // @ts-check
 /* Writes instructions in the notation of "The RISC Architecture" by N. Wirth, as tools/galluspa/instructions.py does; tests/page compares
  * the two. */
+import { conditions as CONDITIONS, flags as TESTS, operations as OPERATIONS, signs as SIGNS } from "../tools/galluspa/assembler.json";
 import { hex } from "./states.js";
 
-const OPERATIONS = "MOV LSL ASR ROR AND ANN IOR XOR ADD SUB MUL DIV FAD FSB FML FDV".split(" ");
-const SIGNS = " ← → rot & & or xor + - * div".split(" ");
-const CONDITIONS = ["MI", "EQ", "CS", "VS", "LS", "LT", "LE", "", "PL", "NE", "CC", "VC", "HI", "GE", "GT", "NO"];
-const TESTS = ["N", "Z", "C", "V", "C or Z", "N xor V", "(N xor V) or Z"];
-const ALWAYS = 7, NEVER = 15;
+const ALWAYS = 7, NEVER = 15, WITH_CARRY = [8, 9];
 
 /**
  * @param {number} word
@@ -27,6 +24,34 @@ const signed = (word, bits) => word << (32 - bits) >> (32 - bits);
 export function instruction(word, at) {
   if (!bit(word, 31)) return registerInstruction(word);
   return bit(word, 30) ? branchInstruction(word, at) : memoryInstruction(word);
+}
+
+/** Returns the number of the word that a branch by an offset leads to, if it may be taken; or null.
+ * @param {number} word
+ * @param {number} at */
+export function branchTarget(word, at) {
+  return word >>> 29 === 7 && (word >>> 24 & 15) !== NEVER ? (at + 1 + signed(word, 22)) & 0x3fffff : null;
+}
+
+/** Returns the number that a move has as its operand, or that this word and the one before it put together: a move of the upper half, and IOR of the
+ * same register; or null.
+ * @param {number} word
+ * @param {number} before */
+export function movedNumber(word, before) {
+  const form = word & 0xf00f0000, a = word >>> 24 & 15;
+  if (form === 0x40000000 || form === 0x50000000) return (word & 0xffff) - (bit(word, 28) ? 0x10000 : 0);
+  const isUpper = [6, 7].includes(before >>> 28) && (before >>> 16 & 15) === 0 && (before >>> 24 & 15) === a && (word >>> 20 & 15) === a;
+  return isUpper && form === 0x40060000 ? (before & 0xffff) * 0x10000 + (word & 0xffff) : null;
+}
+
+/** Returns the registers and flags that an instruction reads; a store also reads what it stores.
+ * @param {number} word */
+export function operandsOf(word) {
+  const [a, b, c] = [24, 20, 0].map((place) => `R${word >>> place & 15}`), op = word >>> 16 & 15, isByRegister = !bit(word, 30), u = bit(word, 29);
+  if (word >>> 30 === 3) return [...((word >>> 24 & 7) === ALWAYS ? [] : ["flags"]), ...(u || (word >>> 24 & 15) === NEVER ? [] : [c])];
+  if (bit(word, 31)) return [...new Set(u ? [b, a] : [b])];
+  if (op === 0 && u) return isByRegister ? [bit(word, 28) ? "flags" : "H"] : [];
+  return [...new Set([...(op === 0 ? [] : [b]), ...(isByRegister ? [c] : []), ...(u && WITH_CARRY.includes(op) ? ["flags"] : [])])];
 }
 
 /**

@@ -10,7 +10,9 @@ import { runTo } from "./look.js";
 import { mayLeave, showOpened } from "./opening.js";
 import { Refusal } from "./requests.js";
 import { smallPicture } from "./screen.js";
+import { isSourceId, keptSourceItems } from "./sourcekept.js";
 import { countOf, DISPLAY_AT, DISPLAY_BYTES, joined, MEMORY_BYTES, STATE_BYTES } from "./states.js";
+import { resumeNames } from "./symbolfiles.js";
 import { database, deleteStorage, storage, withKept, writtenAtOnce } from "./storage.js";
 import { offerToContinue } from "./welcome.js";
 import { Journal, locked, Work } from "./works.js";
@@ -237,6 +239,8 @@ const areBytes = (value) => isBytes(value) || (Array.isArray(value) && value.eve
 /** @param {any} value */
 const areInputs = (value) => isBytes(value) && value.length % INPUT_BYTES === 0;
 /** @param {any} value */
+const areNames = (value) => value === undefined || (typeof value?.from === "string" && isBytes(value.bytes));
+/** @param {any} value */
 const isWaiting = (value) => !value || (areBytes(value.keys) && areBytes(value.serial));
 /** @param {any} value */
 const isFamily = ({ family, number, parent }) => family === undefined || ([family, number].every(Number.isInteger) && isCount(parent));
@@ -247,7 +251,7 @@ const isFamily = ({ family, number, parent }) => family === undefined || ([famil
  * @returns {kept is Kept} */
 function isItem(kept) {
   const isWritten = Number.isInteger(kept.id) && Math.abs(kept.id) < 8e15 && typeof kept.name === "string" && isCount(kept.count);
-  if (!isWritten || !areInputs(kept.inputs) || typeof kept.sent !== "string" || !isWaiting(kept.waiting) || !isFamily(kept)) return false;
+  if (!isWritten || !areNames(kept.symbols) || !areInputs(kept.inputs) || typeof kept.sent !== "string" || !isWaiting(kept.waiting) || !isFamily(kept)) return false;
   if (kept.first) return isMachine(kept.first) && areCounts(kept.marks);
   const isPlayed = isMachine(kept.live) || (!kept.live && isCount(kept.until) && areCounts(kept.marks));
   return isPlayed && isBytes(kept.recording) && isBytes(kept.sentSince);
@@ -327,6 +331,7 @@ export async function summaries() {
     asked.onsuccess = () => {
       if (!asked.result) return;
       const { value } = asked.result;
+      if (isSourceId(value.id)) return asked.result.continue();
       if (isSince(value)) since.set(value.of, value);
       else found.push(summary(value, since.get(value.id))), since.delete(value.id);
       asked.result.continue();
@@ -352,8 +357,10 @@ export async function showKept() {
   /** @type {Summary[] | Error} */
   const read = await summaries().catch((error) => error);
   if (turn !== listing) return;
+  const sources = await keptSourceItems(showKept).catch(() => []);
+  if (turn !== listing) return;
   const here = [app.work, ...branches.list].map(({ id }) => id), own = read instanceof Error ? [] : read.filter(({ id }) => !here.includes(id));
-  const items = read instanceof Error ? [unreadable(read)] : own.map(keptItem);
+  const items = read instanceof Error ? [unreadable(read)] : [...sources, ...own.map(keptItem)];
   offered = own;
   set("forget-all", { hidden: !own.length });
   offerToContinue(own.filter(({ isReadable }) => isReadable));
@@ -415,6 +422,7 @@ export async function resumed(work, id, branchesOf) {
     Object.assign(work, { sent: kept.live ? kept.sent : "", isStored: isFree && until === kept.count && Boolean(kept.live), kept: "" });
     if (!isFree) Object.assign(work, { id: null, by: null });
     showOpened(answer, work, others);
+    attempt(() => resumeNames(kept.symbols));
     if (kept.first) notice("An earlier page kept this session without its recording: Run plays it back and records it.");
     else if (app.latest?.isReplay) await runTo(until);
   } catch (error) {

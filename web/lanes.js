@@ -1,8 +1,7 @@
 // @ts-check
 /* What the live worker says for the page's timeline: the inputs of a span by columns, the checkpoints, and what is next to a count; and
- * what a checkpoint claims of a page of memory. */
+ * what a checkpoint claims of memory. */
 import { generation } from "./live.js";
-import { PAGE_BYTES } from "./states.js";
 import { machine } from "./station.js";
 
 // So many inputs of a column are looked at, and so many of a lane are listed as text.
@@ -25,17 +24,22 @@ export const TIMELINE = {
     const { inputs } = machine, found = isBefore ? inputs.from(at) - 1 : inputs.from(at + 1);
     return found >= 0 && found < inputs.length ? inputs.count(found) : null;
   },
+  /** Returns bytes of the memory of the machine of a number as it is now, or null if that is gone.
+   * @param {Requests["words"][0]} given */
+  words({ from, length, of }) {
+    return of === generation ? machine.words.slice(from, from + length) : null;
+  },
   /** Returns the bytes that a checkpoint of the recording claims to be sent since the one before, or null if the recording is gone.
    * @param {Requests["claimedOutput"][0]} given */
   claimedOutput({ number, of }) {
     return (of === generation && machine.recording?.claims[number]?.sent) || null;
   },
-  /** Returns the bytes of a page of memory that a checkpoint of the recording claims, or null if the recording is gone.
-   * @param {Requests["claimedPage"][0]} given */
-  claimedPage({ number, page, of }) {
+  /** Returns the bytes of memory that a checkpoint of the recording claims, or null if the recording is gone.
+   * @param {Requests["claimedMemory"][0]} given */
+  claimedMemory({ number, from, length, of }) {
     if (of !== generation || !machine.recording) return null;
     const { words } = machine.claimedAt(machine.recordingAt, machine.recording, number);
-    return words.slice(PAGE_BYTES * page, PAGE_BYTES * (page + 1));
+    return words.slice(from, from + length);
   },
 };
 

@@ -12,6 +12,9 @@ const RECORD_REFUSALS = ["", "a number is out of its range", "", "no memory", "t
                          "the recording has reached its limit of pages", "the recording has inputs at or after its last checkpoint"];
 const RECORD_ROOM = 1 << 18, LINE_ROOM = 256;
 const NOT_FOUND = 11, HIT_BYTES = 16;
+// What galluspa_steps writes for each count: the processor, with PC at an offset.
+export const STEP_BYTES = 80;
+const STEP_PC = 68;
 
 /** Bad input, or a request that cannot be met. Its message is one line for the user. */
 export class Refused extends Error {}
@@ -164,6 +167,49 @@ export class Library {
     } finally {
       for (const it of held) this.leave(it);
     }
+  }
+
+  /** Writes how often the run of the state and the words at an address executes each word before a count to `visits`, as 64 bits a word; and how
+   * often it goes on elsewhere than at the next one to `departures`.
+   * @param {number} address
+   * @param {Bytes} inputs
+   * @param {number} to
+   * @param {number} visits
+   * @param {number} departures */
+  profile(address, inputs, to, visits, departures) {
+    const list = this.hold(inputs), many = inputs.length / INPUT_BYTES;
+    try {
+      const given = [address, address + STATE_BYTES, WORDS, list, many, to, visits, WORDS, departures, WORDS];
+      const code = this.exports.galluspa_profile(...given.map(BigInt)) & 255;
+      if (code !== DONE) throw new Refused(ADVANCE_REFUSALS[code]);
+    } finally {
+      this.leave(list);
+    }
+  }
+
+  /** Returns the processors at so many counts from that of the state at an address on, as words.
+   * @param {number} address
+   * @param {Bytes} inputs
+   * @param {number} many */
+  steps(address, inputs, many) {
+    const held = [this.hold(inputs), this.take(STEP_BYTES * many)], [list, steps] = held;
+    try {
+      const given = [address, address + STATE_BYTES, WORDS, list, inputs.length / INPUT_BYTES, steps, many];
+      const code = this.exports.galluspa_steps(...given.map(BigInt)) & 255;
+      if (code !== DONE) throw new Refused(ADVANCE_REFUSALS[code]);
+      return new Uint32Array(this.bytes(steps, STEP_BYTES * many).slice().buffer);
+    } finally {
+      for (const it of held) this.leave(it);
+    }
+  }
+
+  /** Returns PC at each of so many counts from that of the state at an address on.
+   * @param {number} address
+   * @param {Bytes} inputs
+   * @param {number} many */
+  counters(address, inputs, many) {
+    const steps = this.steps(address, inputs, many);
+    return Uint32Array.from({ length: many }, (_, at) => steps[(STEP_BYTES * at + STEP_PC) / 4]);
   }
 }
 

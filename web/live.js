@@ -3,12 +3,15 @@
 import { Queue } from "./arrivals.js";
 import { Pace } from "./emulator.js";
 import { Feed } from "./feed.js";
+import { COUNTER } from "./conditions.js";
 import { CHECKPOINT_LIMIT, readImage, readSession, writeSession } from "./formats.js";
 import { INPUT_BYTES } from "./layout.js";
 import { MOST_COUNT, Refused, unlessRefused } from "./library.js";
 import { AT, equalWords, field, hashOf, joined, last, PER_SECOND, sentText, wordsOf } from "./states.js";
 import { faultOf, library, machine } from "./station.js";
 
+// The register that has the stack's pointer in Project Oberon.
+const POINTER = 14;
 const FRAME_MS = 1000 / 60, BUDGET_MS = 12, FIRST_CHUNK = 200000, LAG_MS = 100, PER_MS = PER_SECOND / 1000;
 // After so many turns in which nothing came about that is shown, a turn at 25 MHz is longer; what the user does ends that at once. What
 // changes with each turn, as the count does, is posted so often; and less often while turns are longer.
@@ -23,16 +26,18 @@ const NOTHING = new Uint8Array();
 
 /** A run: at 25 MHz or as fast as it goes, up to a goal if there is one, with a checkpoint each so many seconds. Then when and where it begun, when
  * its last turn begun, its clock, how long its turns took, their number, how many had no news, its pace, the hit at which it is paused, the
- * count of the instruction that is done though it has a breakpoint, and whether the recording became full.
+ * count of the instruction that is done though it has a breakpoint, whether the recording became full, at which speed it goes on live after its goal, and
+ * where a call returns at which it ends.
  * @typedef {{ on: boolean, fast: boolean, goal: number | null, seconds: number, begun: number, from: number, turn: number,
  *   clock: { ms: number, count: number }, busy: number, frames: number, quiet: number, pace: Pace,
- *   hit: { at: number, condition: Condition } | null, passed: number, becameFull: boolean }} Run */
+ *   hit: { at: number, condition: Condition } | null, passed: number, becameFull: boolean, then: { fast: boolean } | null,
+ *   returns: { pc: number, pointer: number } | null }} Run */
 
 /** A run that is over, or that was none.
  * @returns {Run} */
 const noRun = () => ({
   on: false, fast: false, goal: null, seconds: 0, begun: 0, from: 0, turn: 0, clock: { ms: 0, count: 0 }, busy: 0, frames: 0, quiet: 0,
-  pace: new Pace(BUDGET_MS, FIRST_CHUNK), hit: null, passed: -1, becameFull: false,
+  pace: new Pace(BUDGET_MS, FIRST_CHUNK), hit: null, passed: -1, becameFull: false, then: null, returns: null,
 });
 let run = noRun();
 // The conditions at which a run is paused: breakpoints and watches.
@@ -116,10 +121,10 @@ function speedOf() {
 /** Starts or ends the run: at 25 MHz or as fast as it goes, up to a goal if there is one. A run that begins does its first instruction
  * even at a breakpoint, or it would stay where it was paused.
  * @param {Requests["setRun"][0] & { isGoingOn?: boolean }} given */
-function setRun({ on, fast = false, goal = null, seconds = 0, isGoingOn = false }) {
+function setRun({ on, fast = false, goal = null, seconds = 0, then = null, returns = null, isGoingOn = false }) {
   const now = performance.now();
   const { count } = machine, clock = { ms: now, count };
-  run = { ...noRun(), on, fast, goal, seconds, begun: now, turn: now, from: count, clock, passed: isGoingOn ? -1 : count };
+  run = { ...noRun(), on, fast, goal, seconds, then, returns, begun: now, turn: now, from: count, clock, passed: isGoingOn ? -1 : count };
   if (on) return isDue ? undefined : tick();
   endRun();
   show(NOTHING);
@@ -134,8 +139,8 @@ function endRun() {
 /** Changes the speed of the run, or how often there is a checkpoint. The goal stays.
  * @param {Requests["setPace"][0]} given */
 function setPace({ fast, seconds }) {
-  const { on, goal } = run;
-  if (on) setRun({ on, fast, goal, seconds, isGoingOn: true });
+  const { on, goal, then, returns } = run;
+  if (on) setRun({ on, fast, goal, seconds, then: then && { fast }, returns, isGoingOn: true });
 }
 
 /** Does one turn: advances as far as the clock, or the time of a frame, allows, and stops at each checkpoint on the way. */
@@ -148,9 +153,9 @@ function tick() {
     run.busy += performance.now() - begun;
     run.turn = begun;
     run.frames++;
-    if (isOver(wasReplay)) endRun();
+    if (isOver(wasReplay)) endOrGoOn();
     showTurn(sent);
-    if (run.hit) postMessage({ met: { generation, ...run.hit } });
+    if (run.hit && !isReturn()) postMessage({ met: { generation, ...run.hit } });
     if (run.on && !isDue) again(begun);
   } catch (error) {
     run.on = false;
@@ -170,6 +175,14 @@ function isAtEnd() {
 function isOver(wasReplay) {
   if (run.becameFull || run.hit || machine.isAtLastCount || (run.goal !== null && machine.count >= run.goal)) return true;
   return !machine.isReplay && (wasReplay || machine.part("stop") !== 0);
+}
+
+/** Ends the run, or goes on live from its goal. */
+function endOrGoOn() {
+  const { then, hit, becameFull, seconds } = run;
+  if (!then || hit || becameFull || machine.isReplay || machine.part("stop")) return endRun();
+  run = { ...noRun(), on: true, fast: then.fast, seconds, begun: performance.now(), turn: performance.now(), from: machine.count, passed: -1, frames: run.frames };
+  run.clock = { ms: run.begun, count: machine.count };
 }
 
 // Whether the next turn is under way: there is never more than one; and the timer for which it waits, if it does.
@@ -243,8 +256,9 @@ function turnTo(to, deadline) {
     machine.foresee();
     const stop = Math.min(to, machine.nextStop(run.seconds, machine.trueTo), run.goal ?? Infinity, pieceEnd, machine.roomEnd, MOST_COUNT);
     if (stop <= machine.count) break;
-    const end = breaks.length ? breakBefore(stop) : stop;
+    const end = breaks.length || run.returns ? breakBefore(stop) : stop;
     if (end > machine.count) sent.push(machine.advance(end)), reached();
+    passReturn();
   }
   return joined(sent);
 }
@@ -254,10 +268,21 @@ function turnTo(to, deadline) {
 function breakBefore(stop) {
   if (machine.count === run.passed) return machine.count + 1;
   const inputs = machine.inputs.bytes.subarray(INPUT_BYTES * machine.next, INPUT_BYTES * machine.inputs.from(stop, machine.next));
-  const hit = library.find(machine.address, inputs, stop, breaks, false);
+  const { returns } = run, wanted = returns ? [...breaks, { kind: COUNTER, from: returns.pc, end: returns.pc + 1 }] : breaks;
+  const hit = library.find(machine.address, inputs, stop, wanted, false);
   if (!hit) return stop;
-  run.hit = { at: hit.at, condition: breaks[hit.which] };
+  run.hit = { at: hit.at, condition: wanted[hit.which] };
   return hit.at;
+}
+
+/** Whether the run ends at a call's return, and at no breakpoint. */
+const isReturn = () => run.returns !== null && run.hit !== null && !breaks.includes(run.hit.condition);
+
+/** Goes on where a procedure that calls itself returned, but not to the call that is waited for: the stack's pointer is below what it was. */
+function passReturn() {
+  const { hit, returns } = run;
+  if (!hit || !returns || hit.condition.from !== returns.pc || breaks.includes(hit.condition)) return;
+  if (field(machine.state, AT.R + 4 * POINTER) < returns.pointer) Object.assign(run, { hit: null, passed: machine.count });
 }
 
 /** Records and judges a checkpoint if the machine has just come to one. */
@@ -392,6 +417,11 @@ export const LIVE = {
       else machine.change(kind, value);
     }
     return null;
+  },
+  /** Returns the inputs that the machine took, and its count. */
+  inputs() {
+    const { next, inputs, count } = machine;
+    return { inputs: Array.from({ length: next }, (_, at) => inputs.item(at)), count };
   },
   /** Takes key codes or serial bytes, which wait until the machine takes them. Returns why they have no effect, or null.
    * @param {Requests["type"][0]} given */

@@ -5,18 +5,23 @@ import { app } from "./app.js";
 import { branchOff, mayBranch } from "./branches.js";
 import { closeCard } from "./card.js";
 import { showPaused, showRegisters } from "./claims.js";
-import { showAround, showListing } from "./code.js";
+import { showAround } from "./code.js";
+import { showCounting } from "./counts.js";
 import { showDevices } from "./devices.js";
 import { attempt, el, grouped, many, notice, set, write } from "./elements.js";
 import { dropSent, showLamps } from "./frames.js";
+import { showListing } from "./listing.js";
 import { showMemory } from "./memory.js";
+import { leaveOther } from "./otherrun.js";
 import { isPlaying } from "./play.js";
 import { everySeconds, isToGoOn, setToGoOn } from "./running.js";
 import { drawSoon, endPreview } from "./screen.js";
 import { forgetFinding, showSearched } from "./search.js";
 import { AT, countOf, field, PER_SECOND, STATE_BYTES } from "./states.js";
+import { showSourceNow } from "./source.js";
 import { setGoal, stoppedAt, stopText } from "./stops.js";
 import { forgetAfter, keepInSight, lanes, showCursor } from "./timeline.js";
+import { showTracing } from "./traces.js";
 import { showAsked, showWho } from "./who.js";
 
 // `at` is the count that is looked at, in the past, or ahead of a replay; or null for now. `moment` is what was answered for it last.
@@ -43,13 +48,15 @@ export function inputRefusalInPast() {
   return look.at === stoppedAt() ? "STOPPED: a stopped machine takes no inputs" : "PAST: nothing goes to the machine until you take over, or go back to now";
 }
 
+/** How many instructions are a second of the machine: by its rate, or at 25 MHz if only inputs set its timer. */
+export const perSecond = () => (app.latest ? 1000 * field(app.latest.state, AT.rate) : 0) || PER_SECOND;
 /** @param {number} counts */
-export const secondsOf = (counts) => `${(counts / PER_SECOND).toFixed(3)} s`;
+export const secondsOf = (counts) => `${(counts / perSecond()).toFixed(3)} s`;
 /** How far a count is from now: in seconds, or in instructions where it is near.
  * @param {number} at */
 export function apart(at) {
   const counts = Math.abs(nowCount() - at);
-  return counts < PER_SECOND / 20 ? many(counts, "instruction") : `${(counts / PER_SECOND).toFixed(1)} s`;
+  return counts < perSecond() / 20 ? many(counts, "instruction") : `${(counts / perSecond()).toFixed(1)} s`;
 }
 
 /** Forgets what is said of a count that is no longer looked at. */
@@ -68,6 +75,7 @@ export async function lookAt(count, isSettled = true) {
   const at = Math.max(0, Math.min(Math.floor(count), lanes.end));
   if (at === nowCount()) return backToNow(isSettled);
   endPreview();
+  leaveOther();
   look = { ...look, at };
   forgetSaid();
   showLook(isSettled);
@@ -102,6 +110,7 @@ function saidOfAgain({ stopped, part }) {
 /** Shows the machine as it is now.
  * @param {boolean} isSettled */
 export async function backToNow(isSettled = true) {
+  leaveOther();
   look = NOW;
   forgetSaid();
   write("when", "Registers");
@@ -137,6 +146,15 @@ function showMoment(moment) {
   showDevices(moment.state);
   attempt(showAround);
   attempt(showMemory);
+  showSourceNow();
+}
+
+/** Shows a moment of another run, which is beside the one that is open.
+ * @param {Moment} moment */
+export function showOther(moment) {
+  showMoment(moment);
+  write("when", `The run before, at instruction ${grouped(moment.at)}`);
+  write("mode-text", "The run before. Press x for the run that is open.");
 }
 
 /** Hears what the past says between its answers.
@@ -145,6 +163,8 @@ export function heardPast(news) {
   if (news.peeked && news.peeked.at === look.at) showMoment(news.peeked);
   else if (news.searched) showSearched(news.searched), showAsked(news.searched);
   else if (news.who) showWho(news.who);
+  else if (news.counted) showCounting(news.counted);
+  else if (news.traced) showTracing(news.traced);
   else if (news.refused || news.broken) notice(news.refused ?? news.broken);
 }
 

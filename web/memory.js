@@ -1,16 +1,20 @@
 // @ts-check
 /* The bytes of memory, of which some are selected, to watch them or to ask who wrote them. */
+import { bothOf, memoryAddress } from "./addresses.js";
 import { app } from "./app.js";
 import { MOST_BREAKS, sendBreaks } from "./code.js";
 import { CHANGE } from "./conditions.js";
 import { button, el, made, notice, on, set, write } from "./elements.js";
-import { shownCount } from "./look.js";
+import { shownCount, shownState } from "./look.js";
+import { placeText } from "./names.js";
 import { hex, MEMORY_BYTES } from "./states.js";
 import { isTab } from "./tabs.js";
 import { isNarrow } from "./timeline.js";
 import { askWho } from "./who.js";
 
 export const MEMORY_ROWS = 16, MOST_WATCHED = 4096, ALL_BITS = 0xffffffff;
+// Smaller values are mostly no addresses.
+const LEAST_NAMED = 0x100;
 /** @typedef {{ first: number, end: number }} Watch */
 /** @typedef {Watch & { anchor: number, to: number }} Selected */
 
@@ -65,8 +69,7 @@ function showMemoryAt(at) {
 }
 
 function memoryByField() {
-  const at = parseInt(el("memory-at").value, 16);
-  if (!(at >= 0 && at < MEMORY_BYTES)) return notice(`${el("memory-at").value}: an address is hexadecimal, from 0 to FFFFF.`);
+  const at = memoryAddress(el("memory-at").value, shownState());
   notice();
   select(at, at);
   return showMemoryAt(at);
@@ -94,7 +97,8 @@ function selectedText({ first, end }) {
   const { from, bytes } = bytesShown, word = first - (first % 4) - from;
   const value = word >= 0 && word + 4 <= bytes.length ? new DataView(bytes.buffer, bytes.byteOffset).getUint32(word, true) : null;
   const at = end - first === 1 ? address(first) : `${address(first)} to ${address(end - 1)}`;
-  return `${at}${value === null ? "" : `; the word at ${address(from + word)} is ${hex(value, 8)}, ${value | 0}`}`;
+  const name = placeText(first), points = value !== null && value >= LEAST_NAMED ? placeText(value) : "";
+  return `${at}${name ? `, ${name}` : ""}${value === null ? "" : `; the word at ${bothOf(from + word)} is ${hex(value, 8)}, ${value | 0}${points ? `, ${points}` : ""}`}`;
 }
 
 /** Returns the address of the byte that an element shows, if it does.
@@ -140,7 +144,7 @@ export function setWatches(wanted) {
 
 /** @param {Watch} watch */
 function watchButton({ first, end }) {
-  const made = button(`${address(first)}${end - first > 1 ? ` to ${address(end - 1)}` : ""} ×`, async () => {
+  const name = placeText(first), made = button(`${name ? `${name}, ` : ""}${address(first)}${end - first > 1 ? ` to ${address(end - 1)}` : ""} ×`, async () => {
     select(first, end - 1);
     watchSelected();
   });

@@ -167,9 +167,40 @@ export class Past {
     return this.ask("recheck", { at });
   }
 
+  /** Compares a trace with the machine. Returns null if that was ended.
+   * @param {Requests["trace"][0]} given */
+  trace(given) {
+    return this.ask("trace", given);
+  }
+
+  /** Ends the comparison that is under way. */
+  stopTrace() {
+    return this.ask("stopTrace");
+  }
+
   /** Ends the search that is under way. */
   stop() {
     return this.ask("stopSearch");
+  }
+
+  /** Returns how often each word was executed before a count.
+   * @param {number} to */
+  visits(to) {
+    return this.ask("visits", { from: 0, to });
+  }
+
+  /** Returns how often each word was executed from a count on and before another.
+   * @param {number} from
+   * @param {number} to */
+  span(from, to) {
+    return this.ask("span", { from, to });
+  }
+
+  /** Returns where the program was in a span.
+   * @param {number} from
+   * @param {number} to */
+  program(from, to) {
+    return this.ask("program", { from, to });
   }
 
   /** Returns what changed in the cells of a span, as far as it is known.

@@ -5,6 +5,7 @@ import { branches, keepLeft, NO_BRANCHES, setBranches, showBranches } from "./br
 import { closeCard } from "./card.js";
 import { falseClaim, showClaim, showFalse, showOf } from "./claims.js";
 import { forgetBreaks } from "./code.js";
+import { forgetCounts } from "./counts.js";
 import { attempt, closeMenus, el, grouped, named, notice, plainName, set, write } from "./elements.js";
 import { beginShowing } from "./frames.js";
 import { followWork, inTurn, keep, leave } from "./kept.js";
@@ -12,43 +13,68 @@ import { isPast, nowCount } from "./look.js";
 import { Refusal } from "./requests.js";
 import { setRun } from "./running.js";
 import { beginGame, isSnake } from "./snake.js";
+import { findProgram, isSourceName, LONGEST_SOURCE, showSource } from "./source.js";
+import { beginSource } from "./sourcekept.js";
+import { runningProgram } from "./sourceprogram.js";
 import { endPreview, preview } from "./screen.js";
 import { MEMORY_BYTES } from "./states.js";
+import { dropNames, isSource, isSymbols, openSource, openSymbols } from "./symbolfiles.js";
 import { drawLanes } from "./timeline.js";
+import { compareTrace, isTraceFile } from "./traces.js";
 import { verdicts } from "./verdicts.js";
 import { Work } from "./works.js";
 
 const LONGEST_READ = 118310057, LONGEST_FILE = 67108865, LATE_MS = 300;
+// What a text is called that may be a source.
+const IS_TEXT = /\.(?:asm|s|inc|mod|txt|c|h|oberon)$/i;
 // How often something was chosen to be opened.
 let chosen = 0;
 
 // The sessions that the page contains, by their names.
 export const examples = () => JSON.parse(el("sessions").textContent ?? "{}");
 
-/** Opens the file that was chosen, if any. The choice is cleared at once: the browser reports no choice of the file that is chosen
+/** Opens the files that were chosen, if any. The choice is cleared at once: the browser reports no choice of the file that is chosen
  * already, and a user may choose a file again while it is still being checked.
  * @param {HTMLInputElement} chooser */
 export async function openChosen(chooser) {
-  const [file] = chooser.files ?? [];
+  const files = [...(chooser.files ?? [])];
   chooser.value = "";
-  if (file) await openFile(file);
+  await openFiles(files);
+}
+
+/** Opens files that came together: a machine first, then the names for it, then the sources of these, then a trace. Of several machines the first one is
+ * opened.
+ * @param {File[]} files */
+export async function openFiles(files) {
+  const number = ++chosen, { generation } = app.work, areTraces = await Promise.all(files.map(isTraceFile));
+  const [trace] = files.filter((_, at) => areTraces[at]), read = await Promise.all(files.filter((_, at) => !areTraces[at]).map(readFile));
+  // What was chosen later counts, also if it was read sooner.
+  if (number !== chosen) return;
+  clearRefusal();
+  const symbols = read.filter(({ name, bytes }) => isSymbols(name, bytes)), others = read.filter((file) => !symbols.includes(file));
+  const sources = others.filter(({ name }) => isSourceName(name) || (symbols.length && others.length > 1 && IS_TEXT.test(name))), machines = others.filter((file) => !sources.includes(file));
+  for (const file of [...machines.slice(0, 1), ...symbols.slice(0, 1), ...sources]) await openBytes(file.name, file.bytes);
+  const [first] = machines.length > 1 ? machines : symbols;
+  // A trace is of the machine that came with it, unless that was refused.
+  if (trace && number === chosen && (!machines.length || app.work.generation !== generation)) await compareTrace(trace);
+  if (machines.length > 1 || symbols.length > 1) notice(`Of ${files.length} files that came together the first one is opened: ${first.name}.`);
 }
 
 /** @param {File} file */
-export async function openFile(file) {
-  const name = plainName(file.name), most = /\.orsr$/i.test(name) ? LONGEST_READ : LONGEST_FILE, number = ++chosen;
-  const bytes = new Uint8Array(await file.slice(0, most).arrayBuffer());
-  // A file that was chosen later counts, also if it was read sooner.
-  if (number === chosen) await openBytes(name, bytes);
+async function readFile(file) {
+  const name = plainName(file.name), most = /\.orsr$/i.test(name) ? LONGEST_READ : LONGEST_FILE;
+  return { name, bytes: new Uint8Array(await file.slice(0, most).arrayBuffer()) };
 }
 
-/** Opens a file: a recording or a session by its name or its first bytes; anything else is a memory image. If it is refused, what
- * is open stays.
+/** Opens a file: a recording or a session by its name or its first bytes, names and the sources that they are of; anything else is a memory image.
+ * If it is refused, what is open stays.
  * @param {string} name
  * @param {Bytes} bytes */
 async function openBytes(name, bytes) {
-  clearRefusal();
   try {
+    if (isSymbols(name, bytes)) return await openSymbols(name, bytes);
+    if (isSource(name) && !runningProgram()) return openSource(name, bytes);
+    if (isSourceName(name)) return await openAssembly(name, bytes);
     const first = String.fromCharCode(...bytes.subarray(0, 64)).trimStart();
     if (/\.orsr$/i.test(name) || first.startsWith("ORSR")) await openRecording(name, bytes);
     else if (/\.json$/i.test(name) || first.startsWith("{")) await openSession(name, bytes);
@@ -56,6 +82,27 @@ async function openBytes(name, bytes) {
   } catch (error) {
     if (!(error instanceof Refusal)) throw error;
     showRefusal(name, error.message);
+  }
+}
+
+/** Opens a source in its tab. The one before stays among what is kept.
+ * @param {string} name
+ * @param {Bytes} bytes */
+export async function openAssembly(name, bytes) {
+  if (bytes.length > LONGEST_SOURCE) throw new Refusal(`a source has at most ${grouped(LONGEST_SOURCE)} bytes`);
+  const text = textOf(bytes);
+  await beginSource();
+  showSource(name, text);
+  await attempt(findProgram);
+}
+
+/** Returns the text of a source.
+ * @param {Bytes} bytes */
+function textOf(bytes) {
+  try {
+    return new TextDecoder("utf-8", { fatal: true }).decode(bytes);
+  } catch {
+    throw new Refusal("not a text in UTF-8");
   }
 }
 
@@ -214,6 +261,9 @@ export function showOpened({ claims, version, inputs, checkpoints, left }, work,
   setFile(claims ? { name: "", bytes: new Uint8Array(), claims, version, inputs, checkpoints, verdict: null } : null);
   setImage(null);
   if (work.name !== before.name) forgetBreaks();
+  if (before.generation && work.program !== before.program) dropNames();
+  forgetCounts();
+  set("follow", { checked: true });
   beginShowing();
   showBranches();
   closeCard();
@@ -228,6 +278,7 @@ export function showOpened({ claims, version, inputs, checkpoints, left }, work,
   closeMenus();
   el("claims").hidden = !claims;
   el("pad").hidden = !isSnake();
+  el("report").hidden = false;
   beginGame();
   for (const name of ["run", "step", "save-session", "save-recording", "save-screen", "find-before", "find-next", "who-leds"]) set(name, { disabled: false });
   if (claims) el("claim-number").max = `${checkpoints}`;

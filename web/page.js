@@ -4,11 +4,16 @@ import { attempt } from "./elements.js";
 import { beginReport } from "./report.js";
 import { begin } from "./start.js";
 
-addEventListener("DOMContentLoaded", () => {
+function startPage() {
+  const { report } = document.documentElement.dataset;
+  if (report !== undefined) return beginReport(report);
   const recording = document.getElementById("g-recording");
   if (!recording) attempt(begin);
   else if (recording.dataset.name !== undefined) beginReport(recording.dataset.name);
-});
+}
 
 // A report that tools/report makes calls this with its name.
 Object.assign(globalThis, { beginReport });
+
+if (document.readyState === "loading") addEventListener("DOMContentLoaded", startPage);
+else startPage();

@@ -35,6 +35,20 @@ def examples() -> str:
     return json.dumps(read, separators=(",", ":"))
 
 
+def sources() -> bytes:
+    """The sources and the lessons that the page offers, as JSON."""
+    examples = {path.stem: path.read_text() for path in sorted((HERE.parent / "examples").glob("*.asm"))}
+    return json.dumps(
+        {"examples": examples, "lessons": json.loads((HERE / "lessons.json").read_text())}, ensure_ascii=False
+    ).encode()
+
+
+def report_style() -> bytes:
+    """The style sheet of the reports that `galluspa report` makes, for those that the page makes."""
+    template = (HERE.parent / "tools/galluspa/report.html.j2").read_text()
+    return template.partition("<style>")[2].partition("</style>")[0].encode()
+
+
 def filled(template: str, parts: Mapping[str, str]) -> str:
     """A template with its parts in their places."""
     return re.sub(r"\{\{(\w+)\}\}", lambda found: parts[found[1]], template)

@@ -8,10 +8,13 @@ import { KEYFRAME_MS, KEYFRAME_STEPS } from "./feed.js";
 import { Inputs } from "./formats.js";
 import { Keyframes } from "./keyframes.js";
 import { Refused } from "./library.js";
+import { Whereabouts } from "./program.js";
 import { Claims, Replayer } from "./replayer.js";
 import { Searches } from "./searches.js";
 import { joined, MEMORY_BYTES, PAGES, wordsOf } from "./states.js";
 import { Ended, isWhole, nextTask, unlessEnded } from "./tasks.js";
+import { Tracing } from "./tracing.js";
+import { Visits } from "./visits.js";
 
 // If a look takes longer, what is there comes first.
 const SLOW_MS = 30;
@@ -66,6 +69,10 @@ export class History {
     this.searcher = new Replayer(library);
     this.searches = new Searches(this);
     this.cells = new Cells(this);
+    this.visits = new Visits(this);
+    this.spans = new Visits(this);
+    this.whereabouts = new Whereabouts(this);
+    this.tracing = new Tracing(this);
   }
 
   // What the live machine says
@@ -95,6 +102,8 @@ export class History {
   begin(generation, begun, { state, words, bytes }) {
     this.makeVoid();
     this.cells.forgetAfter(-1);
+    this.visits.forgetAfter(-1);
+    this.spans.forgetAfter(-1);
     this.claims?.leave();
     const keyframes = new Keyframes(this.keyframes.budget), table = keyframes.tableOf(wordsOf(words));
     keyframes.add({ count: 0, state, table, sent: 0, isCheckpoint: true, isClaimed: false });
@@ -107,6 +116,8 @@ export class History {
   cut(count) {
     this.makeVoid();
     this.cells.forgetAfter(count);
+    this.visits.forgetAfter(count);
+    this.spans.forgetAfter(count);
     this.keyframes.forgetAfter(count);
     this.begun = Math.min(this.begun, count);
     if (this.cursor !== null && this.cursor > count) Object.assign(this, { cursor: null, isSettled: true });
@@ -117,6 +128,8 @@ export class History {
     this.epoch++;
     this.looker.forget();
     this.searcher.forget();
+    this.whereabouts.forget();
+    this.tracing.forget();
   }
 
   /** @param {LiveKeyframe} keyframe */

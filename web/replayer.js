@@ -71,8 +71,20 @@ export class Replayer extends Emulator {
     this.advance(inputs, count + 1);
     const changes = changesBetween(before, this.state);
     if (stored !== null && this.word(stored) !== old) changes.push([`Mem[${hex(4 * stored, 6)}]`, hex(old, 8), hex(this.word(stored), 8)]);
-    return { count, pc, word, inputs: taken, changes };
+    return { count, pc, word, inputs: taken, changes, did: this.part("stop") ? "stops" : didText(word, before, this.state) };
   }
+}
+
+/** Says what an instruction did last, though it may have changed nothing: the register that it wrote, or where it stored what.
+ * @param {number | null} word
+ * @param {Bytes} before
+ * @param {Bytes} after */
+function didText(word, before, after) {
+  if (word === null || word >>> 30 === 3) return word !== null && field(after, AT.PC) !== field(before, AT.PC) + 1 ? `to ${field(after, AT.PC)}` : "";
+  const a = word >>> 24 & 15, address = addressIn(word, before);
+  if (word >>> 29 !== 5) return `R${a} = ${hex(field(after, AT.R + 4 * a), 8)}`;
+  const value = field(before, AT.R + 4 * a);
+  return `Mem[${hex(address, 6)}] = ${word >>> 28 & 1 ? hex(value & 255, 2) : hex(value, 8)}`;
 }
 
 /** Returns the number of the word of memory that an instruction may store to, or null.
@@ -80,9 +92,19 @@ export class Replayer extends Emulator {
  * @param {Bytes} state */
 function storedWord(word, state) {
   if (word === null || word >>> 29 !== 5) return null;
-  const address = (field(state, AT.R + 4 * (word >>> 20 & 15)) + (word << 12 >> 12)) & 0xffffff;
+  const address = addressIn(word, state);
   return address < MEMORY_BYTES ? address >>> 2 : null;
 }
+
+/** Returns the byte address that a load takes from; null of any other word.
+ * @param {number} word
+ * @param {Bytes} state */
+export const loadAddress = (word, state) => (word >>> 29 === 4 ? addressIn(word, state) : null);
+
+/** Returns the byte address that a load or a store goes to.
+ * @param {number} word
+ * @param {Bytes} state */
+const addressIn = (word, state) => (field(state, AT.R + 4 * (word >>> 20 & 15)) + (word << 12 >> 12)) & 0xffffff;
 
 // What changes with each instruction, or with time.
 const NOT_LISTED = ["PC", "timer", "phase"];

@@ -21,13 +21,15 @@ export function setToGoOn(is) {
   isToGoOn = is;
 }
 
-/** @param {boolean} isOn */
-export async function setRun(isOn) {
+/** Runs or pauses the machine. A run goes up to a goal, if there is one, and may go on live from there.
+ * @param {boolean} isOn
+ * @param {{ fast?: boolean, goal?: number | null, then?: { fast: boolean } | null }} how */
+export async function setRun(isOn, how = {}) {
   notice();
   isToGoOn = false;
   forgetFinding();
   setGoal(-1);
-  await app.live.ask("setRun", { on: isOn, fast: isFast(), seconds: everySeconds() });
+  await app.live.ask("setRun", { on: isOn, fast: isFast(), seconds: everySeconds(), ...how });
   if (!isOn) return;
   el("screen").focus({ preventScroll: true });
   catchUp();

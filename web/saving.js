@@ -3,6 +3,7 @@
 import { app } from "./app.js";
 import { download, el, grouped, notice } from "./elements.js";
 import { isPast, look, shownCount } from "./look.js";
+import { runningProgram } from "./sourceprogram.js";
 import { noteChecked } from "./timeline.js";
 import { verdicts } from "./verdicts.js";
 
@@ -52,6 +53,7 @@ async function saved(made) {
   const name = savedName("orsr");
   download(name, made.bytes, "application/octet-stream");
   const begun = performance.now(), answer = await verdicts.own.check(name, made.bytes);
+  if (runningProgram()) notice("A recording has no source: Save the source, too, in the tab Source. Both open together.");
   if (!answer) return;
   if (answer.status === 0) noteChecked(made.count);
   el("status").textContent = `${grouped(made.bytes.length)} bytes, checked in ${((performance.now() - begun) / 1000).toFixed(1)} s`;

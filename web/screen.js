@@ -77,7 +77,8 @@ function roomForScreen() {
   if (isNarrow()) return [all, Infinity];
   const above = el("stage").getBoundingClientRect().top + scrollY;
   const below = el("desk").offsetHeight - el("stage").offsetHeight + el("stay").offsetHeight;
-  return [isWide ? all - SIDE_ROOM : all, Math.max(LEAST_HEIGHT, innerHeight - above - below - MARGIN)];
+  const side = el("panel-source").hidden ? SIDE_ROOM : all / 2;
+  return [isWide ? all - side : all, Math.max(LEAST_HEIGHT, innerHeight - above - below - MARGIN)];
 }
 
 /** Gives the screen the largest size that fits; or a whole factor of its dots, if that fills most of the room. */

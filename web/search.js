@@ -1,12 +1,15 @@
 // @ts-check
 /* Searches: at which count something happens, before the cursor or after it. */
+import { bothOf, readAddress, readWord } from "./addresses.js";
 import { app } from "./app.js";
 import { REGISTERS_ASKED } from "./claims.js";
 import { conditionsOfBreaks, noteHit } from "./code.js";
 import { BECOMES, CHANGE, COUNTER, LOAD, SENDS, SENDS_BYTE, STOP, STORE, TAKES } from "./conditions.js";
 import { attempt, el, grouped, made, notice, on, write } from "./elements.js";
+import { followCounter } from "./listing.js";
 import { lookAt, nowCount, shownCount } from "./look.js";
 import { address, ALL_BITS } from "./memory.js";
+import { placeText } from "./names.js";
 import { hex, KINDS, REGISTERS } from "./states.js";
 
 // What can be searched for: its kind, its name, and the labels of what it is about: a range, a value.
@@ -64,10 +67,10 @@ const wanted = (kind) => WANTED.find(([one]) => one === kind) ?? WANTED[0];
  * @param {Condition} condition */
 function conditionText({ kind, from = 0, end = 0, value = 0 }) {
   const [, name, about] = wanted(kind), write = about === "address" ? address : String;
-  const range = end - from > 1 ? `${write(from)} to ${write(end - 1)}` : write(from);
-  if (kind === COUNTER) return `PC ${range}`;
+  const range = end - from > 1 ? `${write(from)} to ${write(end - 1)}` : write(from), place = placeText(kind === COUNTER ? 4 * from : from);
+  if (kind === COUNTER) return `PC ${end - from > 1 ? range : bothOf(4 * from)}${place ? `, ${place}` : ""}`;
   if (kind === BECOMES) return `${REGISTERS_ASKED[from]} becomes ${hex(value, 8)}`;
-  return about ? `${name} ${range}` : kind === SENDS_BYTE ? `${name} ${value}` : kind === TAKES ? `${name}: ${KINDS[value]}` : name;
+  return about ? `${name} ${range}${place ? `, ${place}` : ""}` : kind === SENDS_BYTE ? `${name} ${value}` : kind === TAKES ? `${name}: ${KINDS[value]}` : name;
 }
 
 /**
@@ -79,6 +82,7 @@ export async function foundAt({ at, which }, conditions) {
   finding = { ...finding, hit: { at, conditions } };
   noteHit(at, what);
   await lookAt(at);
+  followCounter();
   if (finding.hit?.at === at) showFinding(`${what} at ${grouped(at)}`);
   return at;
 }
@@ -130,8 +134,8 @@ function conditionsOfForm() {
 }
 
 const FORMS = {
-  PC: "PC is a word number, hexadecimal after 0x, or two as in 20-30.",
-  address: "an address is hexadecimal, ·32 for the word 32, or two as in E8000-E8003.",
+  PC: "PC is a word number, hexadecimal after 0x, a name, or two as in 20-30.",
+  address: "an address is hexadecimal, ·32 for the word 32, a name, or two as in E8000-E8003.",
   register: "a register is R0 to R15, H or flags.",
 };
 const FLAGS = 17, LAST_PC = 1 << 22, LAST_ADDRESS = 1 << 24;
@@ -144,18 +148,10 @@ function rangeOf(text, about) {
     const from = text.toUpperCase() === "FLAGS" ? FLAGS : [...REGISTERS, "H"].indexOf(text.toUpperCase());
     return from < 0 ? null : { from, end: from + 1 };
   }
-  const isAddress = about === "address", [from, last, ...more] = text.split("-").map((one) => placeOf(one, isAddress)), end = last ?? from;
-  return !more.length && from <= end && end < (isAddress ? LAST_ADDRESS : LAST_PC) ? { from, end: end + 1 } : null;
-}
-
-/** Returns the place that was written: an address, in bytes, or a word number. `0080 · 32` is both at once.
- * @param {string} text
- * @param {boolean} isAddress */
-function placeOf(text, isAddress) {
-  const word = /^(?:[0-9a-f]+ *)?· *(\d+)$/i.exec(text.trim());
-  if (word) return isAddress ? 4 * Number(word[1]) : Number(word[1]);
-  const digits = (isAddress ? /^(?:0x)?([0-9a-f]+)$/i : /^(0x[0-9a-f]+|\d+)$/i).exec(text.trim());
-  return digits ? Number(isAddress ? `0x${digits[1]}` : digits[1]) : NaN;
+  const isAddress = about === "address", read = isAddress ? readAddress : readWord, most = isAddress ? LAST_ADDRESS : LAST_PC;
+  // A name may have a line in it, and a sum has one.
+  const whole = read(text), [from, last, ...more] = whole >= 0 ? [whole] : text.split("-").map((one) => read(one)), end = last ?? from;
+  return !more.length && from >= 0 && from <= end && end < most ? { from, end: end + 1 } : null;
 }
 
 /** Returns the value that was written: a number, or the code of a character in quotes.

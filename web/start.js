@@ -2,25 +2,32 @@
 /* Starts the page: its workers, and what its controls do. */
 import { app, setMachine } from "./app.js";
 import { askPart, makeRegisters, showClaim, showMe } from "./claims.js";
+import { listenToProfile } from "./counts.js";
 import {
   cancelSerial, compose, enterSends, letGo, listenToKeyboard, makeDevices, mouseByFields, pointed, pressed, sendFile, sendSerial, switched,
 } from "./devices.js";
-import { attempt, closeMenus, el, messageOf, notice, on, plainName } from "./elements.js";
+import { attempt, closeMenus, el, messageOf, notice, on } from "./elements.js";
 import { heard } from "./frames.js";
 import { forgetAll, isUnsafe, keep, KEEP_MS, keepAtOnce, showKept } from "./kept.js";
+import { listenToListing, showWord } from "./listing.js";
 import { heardPast } from "./look.js";
 import { listenToMemory } from "./memory.js";
 import { Past } from "./moments.js";
-import { cancelImage, clearRefusal, isAnyUnkept, openChosen, openExample, openFile, openImage, runOnFrom } from "./opening.js";
+import { cancelImage, clearRefusal, isAnyUnkept, openChosen, openExample, openFiles, openImage, runOnFrom } from "./opening.js";
 import { unpacked } from "./packed.js";
 import { Helper, placeWorker } from "./requests.js";
 import { everySeconds, isFast, mark, setRun, takeOver } from "./running.js";
+import { listenToReports } from "./reporting.js";
 import { saveRecording, saveSession, saveToCursor } from "./saving.js";
 import { fitScreen, savePicture, showFull } from "./screen.js";
 import { listenToSearch } from "./search.js";
 import { padPressed, playSnake } from "./snake.js";
+import { listenToSource } from "./source.js";
+import { keepSourceAtOnce } from "./sourcekept.js";
+import { listenToNames } from "./symbolfiles.js";
 import { showTab, tabByKey, TABS } from "./tabs.js";
 import { drawLanes, freshen, makeTimeline, measureTrack } from "./timeline.js";
+import { listenToTraces } from "./traces.js";
 import { listenToTime } from "./transport.js";
 import { verdicts } from "./verdicts.js";
 
@@ -40,6 +47,12 @@ function listen() {
   listenToTime();
   listenToMemory();
   listenToSearch();
+  listenToSource();
+  listenToListing();
+  listenToProfile((address) => showWord(address >>> 2));
+  listenToNames();
+  listenToTraces();
+  listenToReports();
   listenToWindow();
 }
 
@@ -92,8 +105,8 @@ function listenToWindow() {
   const above = new ResizeObserver(fitScreen);
   for (const part of [el("stay"), document.querySelector("#galluspa .top")]) if (part) above.observe(part);
   setInterval(() => keep(true), KEEP_MS);
-  document.addEventListener("visibilitychange", () => (attempt(keepAtOnce), keep()));
-  addEventListener("pagehide", () => attempt(keepAtOnce));
+  document.addEventListener("visibilitychange", () => (attempt(keepAtOnce), attempt(keepSourceAtOnce), keep()));
+  addEventListener("pagehide", () => (attempt(keepAtOnce), attempt(keepSourceAtOnce)));
   addEventListener("beforeunload", (event) => {
     if (isAnyUnkept() || isUnsafe()) event.preventDefault();
     attempt(keepAtOnce);
@@ -112,11 +125,8 @@ function dropFiles() {
   addEventListener("dragover", (event) => event.preventDefault());
   addEventListener("drop", (event) => {
     event.preventDefault();
-    const [file, ...more] = event.dataTransfer?.files ?? [];
-    if (file) attempt(async () => {
-      await openFile(file);
-      if (more.length) notice(`Of ${more.length + 1} files that were dropped the first one is opened: ${plainName(file.name)}.`);
-    });
+    const files = [...(event.dataTransfer?.files ?? [])];
+    if (files.length) attempt(() => openFiles(files));
   });
 }
 

@@ -34,7 +34,7 @@ export function countOf(state) {
 }
 
 /** @param {number} value */
-function flagsText(value) {
+export function flagsText(value) {
   return [..."NZCV"].map((letter, at) => (value >> (3 - at) & 1 ? letter : "-")).join("");
 }
 

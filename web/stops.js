@@ -3,6 +3,7 @@
  * stopped it. */
 import { app } from "./app.js";
 import { attempt, grouped } from "./elements.js";
+import { explainStop, forgetExplained } from "./explaining.js";
 import { showStatus } from "./frames.js";
 import { look, lookAt, nowCount, showMode } from "./look.js";
 import { AT, field } from "./states.js";
@@ -33,11 +34,12 @@ export function findStop() {
   const { latest, work: { fork } } = app;
   if (!latest || latest.on || latest.fork !== fork || !field(latest.state, AT.stop) || stopped.fork === fork) return;
   stopped = { ...stopped, fork, at: null };
+  forgetExplained();
   attempt(async () => {
     const found = await app.past.who({ device: "stop", before: nowCount(), request: app.past.numbered() });
     if (app.work.fork !== fork || stopped.fork !== fork || found?.at === undefined) return;
     stopped.at = found.at;
     if (look.at === null && stopped.goal !== nowCount()) await lookAt(found.at);
-    if (app.latest) showMode(app.latest), showStatus(app.latest);
+    if (app.latest) showMode(app.latest), showStatus(app.latest), await explainStop(found, field(app.latest.state, AT.stop));
   });
 }

@@ -2,9 +2,12 @@
 /* The tabs beside the screen: the parts of the machine, of which one is shown. */
 import { showAround } from "./code.js";
 import { attempt, el } from "./elements.js";
+import { showCode } from "./listing.js";
 import { showMemory } from "./memory.js";
+import { fitScreen } from "./screen.js";
+import { showSourceNow, sourceEditor } from "./source.js";
 
-export const TABS = ["state", "code", "memory", "devices", "log"];
+export const TABS = ["state", "source", "code", "memory", "devices", "log"];
 
 /** @param {string} name */
 export function showTab(name) {
@@ -13,8 +16,11 @@ export function showTab(name) {
     el(`tab-${tab}`).setAttribute("aria-selected", `${isShown}`);
     el(`panel-${tab}`).hidden = !isShown;
   }
+  document.getElementById("galluspa")?.classList.toggle("sourcing", name === "source");
+  fitScreen();
+  if (name === "source") sourceEditor().showBeside(), showSourceNow();
   if (name === "memory") attempt(showMemory);
-  if (name === "code") attempt(showAround);
+  if (name === "code") showCode(), attempt(showAround);
 }
 
 /** @param {string} name */

@@ -1,5 +1,6 @@
 // @ts-check
 /* Tasks of the worker that looks into the past: how they let others go first, and how they end. */
+import { Refused } from "./library.js";
 
 /** Says that nobody waits for an answer any more: something newer came, or another machine. */
 export class Ended extends Error {}
@@ -30,4 +31,51 @@ export function unlessEnded(answer) {
     if (!(error instanceof Ended)) throw error;
     return answer;
   };
+}
+
+/** Errands that use one machine, one after the other: looks come first, and a newer one ends the one that is under way. */
+export class Errand {
+  asked = 0;
+  /** @type {Promise<unknown>} */
+  underWay = Promise.resolve();
+
+  /** @param {import("./past.js").History} history */
+  constructor(history) {
+    this.history = history;
+  }
+
+  /** Does a task about the machine up to a count, with a turn between its pieces. Returns null if it was ended.
+   * @template T
+   * @param {{ generation?: number, to: number }} given
+   * @param {(turn: () => Promise<void>) => Promise<T>} task
+   * @returns {Promise<T | null>} */
+  run(given, task) {
+    const number = ++this.asked, isNewest = () => number === this.asked, done = this.underWay.then(() => this.begun(given, task, isNewest)).catch(unlessEnded(null));
+    this.underWay = done.catch(() => {});
+    return done;
+  }
+
+  /** Ends what is under way. */
+  end() {
+    this.asked++;
+  }
+
+  /**
+   * @template T
+   * @param {{ generation?: number, to: number }} given
+   * @param {(turn: () => Promise<void>) => Promise<T>} task
+   * @param {() => boolean} isNewest
+   */
+  async begun({ generation, to }, task, isNewest) {
+    const { history } = this;
+    if (!isNewest()) throw new Ended();
+    await history.known(generation, to);
+    if (to > history.end) throw new Refused(`the machine has not come to ${to} yet`);
+    const { epoch } = history;
+    return task(async () => {
+      await nextTask();
+      while (history.looking) await history.looks;
+      if (history.epoch !== epoch || !isNewest()) throw new Ended();
+    });
+  }
 }

@@ -4,12 +4,15 @@ import { app } from "./app.js";
 import { drawBranches } from "./branches.js";
 import { falseClaim } from "./claims.js";
 import { forgetHits, hitMarks } from "./code.js";
+import { askCode, codeAt, codeList, drawCode, forgetCode, hasCode } from "./codelane.js";
 import { attempt, el, grouped, made, many, set, write } from "./elements.js";
-import { apart, isAhead, isPast, lookAt, nowCount, secondsOf, shownCount } from "./look.js";
+import { onNames } from "./names.js";
+import { apart, isAhead, isPast, lookAt, nowCount, perSecond, secondsOf, shownCount } from "./look.js";
 import { LINES } from "./screen.js";
 import { countOf, hex, PER_SECOND } from "./states.js";
+import { bracketAt, bracketText, drawBracket, forgetBracket } from "./traces.js";
 
-const LANES = ["checkpoints", "keys", "mouse", "serial", "screen", "hits", "keyframes"];
+const LANES = ["checkpoints", "keys", "mouse", "serial", "screen", "code", "hits", "keyframes"];
 // So many lanes have room, also if fewer have something: the screen does not change its size for each one.
 const LEAST_LANES = 4;
 const ROW = 16, AXIS = 16, MERGED = 28, LEAST_SPAN = 16, GLYPH_WIDTH = 6, HATCH = 6, FINGER_MOVE = 6, LISTED = 40;
@@ -30,17 +33,19 @@ const NOTHING_FOUND = { keys: [], mouse: new Uint8Array(), serial: new Uint8Arra
 const newLanes = () => ({ end: 0, found: NOTHING_FOUND, cells: [], passed: new Map(), film: [], rows: [LANES[LANES.length - 1]] });
 export let lanes = newLanes();
 // The span that is shown, and how it is used: `isAsked` while the worker is asked for its lanes, `isStale` if they are wanted again,
-// `asked` says what they depend on as they were asked last, and `pointers` are those on the track, with where they are. A finger looks
+// `asked` says what they depend on as they were asked last, `selected` is the part that was selected, from one count to another, and `pointers` are those on the track, with where they are. A finger looks
 // at the count that it `pressed` only once it moves or is lifted, since another may come with it. `drawn` is when the lanes were drawn.
 const timeline = {
   from: 0, to: PER_SECOND, isWhole: true, isDragged: false, isAsked: false, isStale: false, asked: "", due: 0, filmDue: 0, changing: 0, drawn: 0, columns: 1,
-  pressed: /** @type {number | null} */ (null), pointers: /** @type {Map<number, number>} */ (new Map()),
+  pressed: /** @type {number | null} */ (null), selected: /** @type {{ anchor: number, to: number } | null} */ (null), isSelecting: false, pointers: /** @type {Map<number, number>} */ (new Map()),
 };
 
 /** Begins the lanes of a machine that was opened. */
 export function beginLanes() {
   lanes = { ...newLanes(), end: nowCount() };
-  Object.assign(timeline, { isWhole: true, isDragged: false });
+  Object.assign(timeline, { isWhole: true, isDragged: false, selected: null });
+  forgetCode();
+  forgetBracket();
   freshen(true);
 }
 
@@ -51,16 +56,22 @@ export function forgetAfter(at) {
   const isBefore = ([count]) => count <= at;
   const passed = new Map([...lanes.passed].filter(isBefore));
   forgetHits(at);
+  forgetBracket(at);
   for (const item of el("passed").querySelectorAll("li")) if (Number(item.dataset.count) > at) item.remove();
   lanes = { ...lanes, end: at, cells: lanes.cells.filter(({ end }) => end <= at), passed };
   freshen(true);
 }
 
+/** Has the timeline reach a count at least.
+ * @param {number} count */
+export function reachTo(count) {
+  if (count > lanes.end) lanes.end = count;
+}
+
 /** Notes what a frame of the live machine brings for the lanes.
  * @param {Frame} frame */
 export function noteFrame({ state, on }) {
-  const count = countOf(state);
-  if (count > lanes.end) lanes.end = count;
+  reachTo(countOf(state));
   freshen(!on);
 }
 
@@ -173,10 +184,17 @@ async function askFilm() {
   if (app.latest?.on && now < timeline.filmDue) return;
   timeline.filmDue = now + FILM_MS;
   attempt(askChanges);
+  attempt(askProgram);
   const film = await app.past.keyframes();
   if (!film || film.counts.length === lanes.film.length) return;
   lanes = { ...lanes, film: film.counts };
   drawLanes();
+}
+
+/** Asks where the program was. */
+async function askProgram() {
+  const { from, to } = timeline;
+  if (await askCode(from, to, columns())) drawLanes(), listLanes();
 }
 
 /** Asks what changed in the cells of the span: again until all of them are known, or, while the machine runs, with the keyframes. */
@@ -229,8 +247,10 @@ export function drawLanes() {
   const to = { pen, colour, width };
   drawAxis(to);
   /** @type {{ [lane: string]: (place: Place) => void }} */
-  const drawings = { checkpoints: drawClaims, keys: drawKeys, mouse: drawMouse, serial: drawSerial, screen: drawScreen, hits: drawMarks, keyframes: drawFilm };
+  const drawings = { checkpoints: drawClaims, keys: drawKeys, mouse: drawMouse, serial: drawSerial, screen: drawScreen, code: (place) => drawCode(place, columnOf), hits: drawMarks, keyframes: drawFilm };
   for (const lane of lanes.rows) drawings[lane]({ ...to, ...placeOf(lane) });
+  drawBracket({ ...to, y: 0, high: height }, columnOf);
+  drawSelected(to, height);
   drawNow(to, height);
 }
 
@@ -240,7 +260,7 @@ function findRows() {
   /** @type {{ [lane: string]: boolean }} */
   const has = {
     checkpoints: claimMarks().length > 0, keys: keys.length > 0, mouse: mouse.some(Boolean), serial: serial.some(Boolean) || cells.some(({ sent }) => sent),
-    screen: cells.some(({ lines }) => lines), hits: hitMarks().length > 0,
+    screen: cells.some(({ lines }) => lines), code: hasCode(), hits: hitMarks().length > 0,
   };
   const now = LANES.filter((lane) => has[lane] || rows.includes(lane));
   if (now.length === rows.length && el("names").childElementCount === now.length + 1) return;
@@ -257,10 +277,10 @@ function placeOf(lane) {
 
 /** @param {Omit<Place, "y" | "high">} place */
 function drawAxis({ pen, colour, width }) {
-  const span = timeline.to - timeline.from, step = tickStep(span * TICK_WIDTH / width), inSeconds = step >= PER_SECOND / 1000;
+  const span = timeline.to - timeline.from, step = tickStep(span * TICK_WIDTH / width), inSeconds = step >= perSecond() / 1000;
   pen.fillStyle = colour("soft");
   for (let count = Math.ceil(timeline.from / step) * step; count <= timeline.to; count += step) {
-    const x = columnOf(count), text = inSeconds ? `${Number((count / PER_SECOND).toPrecision(7))} s` : grouped(count);
+    const x = columnOf(count), text = inSeconds ? `${Number((count / perSecond()).toPrecision(7))} s` : grouped(count);
     pen.fillRect(x, 0, 1, AXIS - 2);
     if (x + pen.measureText(text).width + 4 < width) pen.fillText(text, x + 4, AXIS / 2);
   }
@@ -270,7 +290,7 @@ function drawAxis({ pen, colour, width }) {
  * of counts.
  * @param {number} least */
 function tickStep(least) {
-  const unit = least >= PER_SECOND / 1000 ? PER_SECOND : 1, power = 10 ** Math.floor(Math.log10(Math.max(1, least) / unit));
+  const unit = least >= perSecond() / 1000 ? perSecond() : 1, power = 10 ** Math.floor(Math.log10(Math.max(1, least) / unit));
   return Math.max(1, unit * power * ([1, 2, 5, 10].find((share) => share * unit * power >= least) ?? 10));
 }
 
@@ -406,6 +426,31 @@ function drawNow({ pen, colour, width }, height) {
   pen.fillRect(x - 0.5, AXIS - 3, 1, height);
 }
 
+/** Draws what is selected.
+ * @param {Omit<Place, "y" | "high">} place
+ * @param {number} height */
+function drawSelected({ pen, colour }, height) {
+  if (!timeline.selected) return;
+  const { from, to } = selectedSpan();
+  pen.fillStyle = colour("link");
+  pen.globalAlpha = 0.2;
+  pen.fillRect(columnOf(from), 0, Math.max(1, columnOf(to) - columnOf(from)), height);
+  pen.globalAlpha = 1;
+}
+
+/** Returns the span that is selected, or else the one in sight. */
+export function selectedSpan() {
+  const { selected, from, to } = timeline, ends = selected ? [selected.anchor, selected.to] : [from, to];
+  return { from: Math.max(0, Math.floor(Math.min(...ends))), to: Math.ceil(Math.max(...ends)), isSelected: Boolean(selected) };
+}
+
+/** Selects nothing any more. */
+export function forgetSelected() {
+  if (!timeline.selected) return;
+  timeline.selected = null;
+  drawLanes();
+}
+
 /** Returns the entries of a list whose counts are in the span; the list is in the order of its counts.
  * @template {[number, ...any[]]} T
  * @param {T[]} list
@@ -443,7 +488,7 @@ function cursorWords(at) {
 }
 
 /** Writes each lane as a list, for those who do not see it. */
-function listLanes() {
+export function listLanes() {
   const { listed } = lanes.found;
   /**
    * @template {[number, ...any[]]} T
@@ -465,10 +510,12 @@ function listLanes() {
     mouse: inputs("mouse"),
     serial: [...inputs("serial"), ...ofCells("sent", (bytes) => `${many(bytes, "byte")} sent`), ...unknown],
     screen: [...ofCells("lines", (lines) => `${many(lines, "line")} changed`), ...unknown],
+    code: codeList(),
     hits: latest(hitMarks()).map(([count, , what]) => `${what} at ${grouped(count)}`),
     keyframes: [`kept up to ${grouped(nowCount())}`],
   };
-  el("lists").replaceChildren(...LANES.map((lane) => laneList(lane, lists[lane])));
+  const bracket = bracketText(), ofTrace = bracket ? [laneList("trace", [bracket])] : [];
+  el("lists").replaceChildren(...LANES.map((lane) => laneList(lane, lists[lane])), ...ofTrace);
 }
 
 /**
@@ -493,9 +540,30 @@ export function trackPressed(event) {
   timeline.pointers.set(event.pointerId, event.clientX);
   el("track").setPointerCapture(event.pointerId);
   el("cursor").focus({ preventScroll: true });
+  if (event.shiftKey) return beginSelecting(event);
   const isDragged = timeline.pointers.size === 1, at = glyphNear(event) ?? countAt(xOf(event)), isFinger = event.pointerType === "touch";
   Object.assign(timeline, { isDragged, pressed: isDragged && isFinger ? at : null });
   if (isDragged && !isFinger) return lookAt(at, false);
+}
+
+/** @param {PointerEvent} event */
+function beginSelecting(event) {
+  const anchor = countAt(xOf(event));
+  Object.assign(timeline, { isSelecting: true, isDragged: false, pressed: null, selected: { anchor, to: anchor } });
+}
+
+/** @param {PointerEvent} event */
+function selectUpTo(event) {
+  if (!timeline.selected) return;
+  timeline.selected = { ...timeline.selected, to: countAt(Math.max(0, Math.min(columns(), xOf(event)))) };
+  drawLanes();
+}
+
+/** Names the procedure under the mouse, if it is in the lane of the code, or says where a trace parts from the machine.
+ * @param {PointerEvent} event */
+function nameUnder(event) {
+  const row = lanes.rows[Math.floor((event.clientY - el("track").getBoundingClientRect().top - AXIS) / ROW)], x = xOf(event);
+  set("track", { title: bracketAt(x, columnOf) || (row === "code" && !isNarrow() ? codeAt(countAt(x)) : "") });
 }
 
 /** Returns the count of the checkpoint or the hit whose glyph is under the pointer, if there is one.
@@ -509,7 +577,8 @@ function glyphNear(event) {
 /** @param {PointerEvent} event */
 export function trackMoved(event) {
   const { pointers } = timeline;
-  if (!pointers.has(event.pointerId)) return;
+  if (!pointers.has(event.pointerId)) return nameUnder(event);
+  if (timeline.isSelecting) return selectUpTo(event);
   if (pointers.size === 2) return pinch(event);
   if (Math.abs(event.clientX - (pointers.get(event.pointerId) ?? 0)) < (timeline.pressed === null ? 1 : FINGER_MOVE)) return;
   timeline.pressed = null;
@@ -528,10 +597,19 @@ function pinch({ pointerId, clientX }) {
 
 /** @param {PointerEvent} event */
 export function trackReleased(event) {
-  if (!timeline.pointers.delete(event.pointerId) || !timeline.isDragged) return;
+  if (!timeline.pointers.delete(event.pointerId)) return;
+  if (timeline.isSelecting) return endSelecting();
+  if (!timeline.isDragged) return;
   const at = timeline.pressed ?? shownCount();
   Object.assign(timeline, { isDragged: false, pressed: null });
   return lookAt(at);
+}
+
+/** Ends the selecting. A press without a move selects nothing. */
+function endSelecting() {
+  const { from, to } = selectedSpan();
+  timeline.isSelecting = false;
+  if (columnOf(to) - columnOf(from) < 2) forgetSelected();
 }
 
 /** The wheel zooms around the pointer with Ctrl, and moves along with Shift, or sideways; else it scrolls the page.
@@ -552,6 +630,7 @@ export function measureTrack() {
 }
 
 export function makeTimeline() {
+  onNames(() => (forgetCode(), drawLanes(), attempt(askProgram)));
   measureTrack();
   new ResizeObserver(() => (measureTrack(), drawLanes(), showCursor(false))).observe(el("track"));
   matchMedia("(prefers-color-scheme: dark)").addEventListener("change", drawLanes);

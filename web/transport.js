@@ -1,19 +1,23 @@
 // @ts-check
 /* The transport: the buttons and the keys that go to another count. The keys are those of the time machine's region: while the screen
  * has the focus, its keys go to the machine. */
+import { readWord } from "./addresses.js";
 import { app } from "./app.js";
 import { conditionsOfBreaks, toggleBreak } from "./code.js";
+import { COUNTER } from "./conditions.js";
 import { attempt, closeMenus, el, notice, on } from "./elements.js";
 import {
-  backToNow, isAhead, isPast, lookAt, nowCount, runAgain, runTo, shownCount, shownState, takeOverHere,
+  backToNow, isAhead, isPast, lookAt, nowCount, perSecond, runAgain, runTo, shownCount, shownState, takeOverHere,
 } from "./look.js";
 import { watchSelected } from "./memory.js";
+import { toggleOther } from "./otherrun.js";
 import { isPlaying, pausePlay, play } from "./play.js";
 import { setRun } from "./running.js";
 import { finding, search, searchAgain, stopSearch } from "./search.js";
-import { AT, field, PER_SECOND } from "./states.js";
+import { AT, field } from "./states.js";
+import { stepInto, stepOut, stepOver } from "./stepping.js";
 import {
-  claimMarks, lanes, showSpan, trackMoved, trackPressed, trackReleased, wheeled, wholeSpan, zoom, ZOOM,
+  claimMarks, forgetSelected, lanes, showSpan, trackMoved, trackPressed, trackReleased, wheeled, wholeSpan, zoom, ZOOM,
 } from "./timeline.js";
 import { asking } from "./who.js";
 
@@ -62,15 +66,23 @@ async function toNow() {
   if (app.latest?.isReplay) await runTo(lanes.found.end);
 }
 
-/** Goes to the count that was written: a number, or seconds as in 1.5 s. */
+/** Goes to the next count at which PC comes to a word; if there is none, to the last one before the cursor.
+ * @param {number} word */
+async function toWord(word) {
+  const comes = [{ kind: COUNTER, from: word, end: word + 1, value: 0 }];
+  if ((await search(comes, false)) === null) await search(comes, true);
+}
+
+/** Goes to the count that was written: a number, or seconds as in 1.5 s; or to where PC comes to a name. */
 async function toWritten() {
   const text = el("goto").value.replaceAll(/[, ]/g, ""), seconds = /^(\d+(?:\.\d*)?)s$/.exec(text);
-  if (!seconds && !/^(?:\d+|0x[0-9a-f]+)$/i.test(text))
-    return notice(`${el("goto").value}: a count is a whole number, hexadecimal after 0x, or seconds as in 1.5 s.`);
+  const isCount = seconds || /^(?:\d+|0x[0-9a-f]+)$/i.test(text), word = isCount ? NaN : readWord(el("goto").value, shownState());
+  if (!isCount && !(word >= 0)) return notice(`${el("goto").value}: a count is a whole number, hexadecimal after 0x, or seconds as in 1.5 s; or write a name.`);
   notice();
   if (document.activeElement === el("goto")) el("cursor").focus({ preventScroll: true });
   closeMenus();
-  await lookAt(seconds ? Number(seconds[1]) * PER_SECOND : Number(text));
+  if (!isCount) return toWord(word);
+  await lookAt(seconds ? Number(seconds[1]) * perSecond() : Number(text));
 }
 
 // What each key does. A capital is with Shift.
@@ -80,7 +92,8 @@ const KEYS = {
   ",": () => toInput(true), ".": () => toInput(false), "[": () => toClaim(true), "]": () => toClaim(false),
   Home: () => lookAt(0), End: toNow, PageUp: () => zoom(ZOOM), PageDown: () => zoom(1 / ZOOM), "+": () => zoom(ZOOM), "-": () => zoom(1 / ZOOM),
   "−": () => zoom(1 / ZOOM), "=": () => zoom(ZOOM), g: () => openMore("goto"), "/": () => openMore("search-kind"),
-  n: () => searchAgain(false), N: () => searchAgain(true), b: () => toggleBreak(field(shownState(), AT.PC)), w: watchSelected, Escape: endOrNow,
+  n: () => searchAgain(false), N: () => searchAgain(true), b: () => toggleBreak(field(shownState(), AT.PC)), w: watchSelected, x: toggleOther, i: () => stepInto(false), I: () => stepInto(true), o: () => stepOver(false), O: () => stepOver(true),
+  u: () => stepOut(false), U: () => stepOut(true), Escape: endOrNow,
 };
 
 /** Does what a key of the region means, unless it is typed into a field.
@@ -103,6 +116,7 @@ function openMore(field) {
 
 /** Ends the search that is under way, or else goes to now. */
 function endOrNow() {
+  forgetSelected();
   return finding.isOn || asking?.isOn ? stopSearch() : backToNow();
 }
 

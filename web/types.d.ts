@@ -97,9 +97,16 @@ interface Since {
   waiting: Waiting;
 }
 
+/** A symbol file as it was given: what it is called, and its bytes. */
+interface SymbolFile {
+  from: string;
+  bytes: Bytes;
+}
+
 /** What an item has beside the machine. */
 interface Labels {
   name: string;
+  symbols?: SymbolFile;
   sent: string;
   family?: number;
   number?: number;
@@ -306,6 +313,7 @@ interface Done {
   word: number | null;
   inputs: [string, number][];
   changes: [string, string, string][];
+  did: string;
 }
 
 interface Found {
@@ -360,10 +368,58 @@ interface Changes {
   isDone: boolean;
 }
 
+/** How often the machine executed each word from a count on and before another: the words that it executed, and how often. */
+interface Visited {
+  from: number;
+  to: number;
+  words: Uint32Array;
+  times: Float64Array;
+}
+
+/** Where the program was in a span: PC at some counts, or, if there are none, at each count. */
+interface ProgramCounters {
+  from: number;
+  to: number;
+  counts: Float64Array | null;
+  pcs: Uint32Array;
+}
+
+/** What comes of a trace that was compared with the machine: how many lines are the same, the counts of the first and the last of them (below 0 if
+ * there is none), up to which count the machine has come, which columns were not compared, whether the trace goes on after that count, and where it
+ * parts from the machine, if it does. */
+interface Traced {
+  lines: number;
+  first: number;
+  last: number;
+  end: number;
+  unknown: string[];
+  isCut: boolean;
+  parted: Parted | null;
+}
+
+/** The first line of a trace that differs, with its count and that of the line before (below 0 if there is none); the columns that differ, as the trace
+ * and as the machine has them; and whether these are the same if the trace is read as hexadecimal. */
+interface Parted {
+  line: number;
+  at: number;
+  before: number;
+  differences: [string, string, string][];
+  isHexadecimal: boolean;
+  gave: Gave | null;
+}
+
+/** The instruction after which a trace and the machine differ, as the machine did it; what it reads; and what it changes in the trace. */
+interface Gave extends Done {
+  operands: [string, About][];
+  trace: [string, string, string][];
+}
+
 interface PastNews extends Failure {
+  traced?: { generation: number; request?: number; lines: number; last: number; done: number; of: number };
   peeked?: Moment & { generation: number };
   searched?: { generation: number; request: number; done: number; of: number };
   who?: Written & { generation?: number };
+  counted?: { generation: number; to: number; done: number; of: number };
 }
 
 /** A piece of a run that the crew searches. */
@@ -375,6 +431,50 @@ interface Piece extends Memory {
   isLast?: boolean;
 }
 
+// What the worker that assembles answers
+
+/** What is wrong with a source, at a line and a column, both counted from 1. */
+interface Problem {
+  line: number;
+  column: number;
+  text: string;
+}
+
+/** A program: its memory, its session without checkpoints, how many words it fills, its symbol file, and the byte address and the line of
+ * each instruction. */
+interface AssembledProgram {
+  memory: Bytes;
+  session: string;
+  words: number;
+  symbols: string;
+  lines: [number, number][];
+  inputs: number;
+  hasCheckpoints: boolean;
+}
+
+/** A source that was assembled: the first of its problems, how many there are, and its program if there are none. */
+interface Assembled {
+  problems: Problem[];
+  number: number;
+  program: AssembledProgram | null;
+}
+
+/** The session of a source with its checkpoints, or why there is none. */
+interface SessionOf {
+  problems: Problem[];
+  number: number;
+  session: string | null;
+  notes: Problem[];
+}
+
+/** What a lesson wants of a program at a count: parts of the state by their names, words of memory by their addresses, and what was sent. */
+interface Wanted {
+  at: number;
+  sent?: string;
+  memory?: { [address: string]: number };
+  [part: string]: any;
+}
+
 // Requests
 
 /** What each request is given, and what its answer is. */
@@ -384,7 +484,7 @@ interface Requests {
   openSession: [{ bytes: Bytes }, Opened];
   openImage: [{ image: Bytes; address: string; registers: string }, Opened];
   resume: [{ kept: Kept | (Labels & Whole) }, Opened];
-  setRun: [{ on: boolean; fast?: boolean; goal?: number | null; seconds?: number }, void];
+  setRun: [{ on: boolean; fast?: boolean; goal?: number | null; seconds?: number; then?: { fast: boolean } | null; returns?: { pc: number; pointer: number } | null }, void];
   setPace: [{ fast: boolean; seconds: number }, void];
   step: [{}, void];
   toCheckpoint: [{ fast: boolean; seconds: number }, void];
@@ -395,7 +495,7 @@ interface Requests {
   cancelSerial: [{}, void];
   mark: [{}, string | null];
   claimed: [{ number: number; of: number }, Claimed | null];
-  claimedPage: [{ number: number; page: number; of: number }, Bytes | null];
+  claimedMemory: [{ number: number; from: number; length: number; of: number }, Bytes | null];
   claimedOutput: [{ number: number; of: number }, Bytes | null];
   session: [{}, Made];
   recording: [{}, Made];
@@ -413,8 +513,20 @@ interface Requests {
   find: [{ generation?: number; request?: number; from?: number; to: number; last?: boolean; conditions: Condition[] }, Found];
   who: [About & { generation?: number; request?: number; before: number }, Written];
   recheck: [{ generation?: number; at: number }, { at?: number; part?: string | null; stopped?: boolean }];
+  trace: [{ generation?: number; request?: number; file: Blob; isHexadecimal: boolean }, Traced | null];
+  stopTrace: [{}, void];
   stopSearch: [{}, boolean];
   keyframes: [{}, Extent];
+  assemble: [{ source: string; file: string }, Assembled];
+  sessionOf: [{ source: string; seconds: number }, SessionOf | null];
+  endSession: [{}, void];
+  judge: [{ source: string; claim: Wanted; seconds: number }, { line: string | null; number: number } | null];
+  parting: [{ one: string; other: string; to: number }, { at: number | null; upTo: number } | null];
+  inputs: [{}, { inputs: Input[]; count: number }];
+  visits: [{ generation?: number; from: number; to: number }, Visited | null];
+  span: [{ generation?: number; from: number; to: number }, Visited | null];
+  program: [{ generation?: number; from: number; to: number }, ProgramCounters | null];
+  words: [{ from: number; length: number; of: number }, Bytes | null];
   changes: [{ generation?: number; from: number; to: number; size: number; now: number; isOn: boolean }, Changes | null];
 }
 
@@ -424,6 +536,11 @@ type RequestName = keyof Requests;
 
 /** The elements of the page that are more than an HTMLElement, by their names. */
 interface Elements {
+  report: HTMLDetailsElement;
+  "report-title": HTMLInputElement;
+  "report-note": HTMLTextAreaElement;
+  "report-names": HTMLInputElement;
+  "report-sources": HTMLInputElement;
   screen: HTMLCanvasElement & { editContext?: EditContext; virtualKeyboardPolicy?: string };
   lanes: HTMLCanvasElement;
   file: HTMLInputElement;
@@ -453,6 +570,9 @@ interface Elements {
   "serial-file": HTMLInputElement;
   "claim-number": HTMLInputElement;
   "memory-at": HTMLInputElement;
+  "code-form": HTMLFormElement;
+  "code-at": HTMLInputElement;
+  follow: HTMLInputElement;
   search: HTMLFormElement;
   "search-kind": HTMLSelectElement;
   "search-range": HTMLInputElement;
@@ -467,6 +587,12 @@ declare class EditContext extends EventTarget {
   updateText(from: number, to: number, text: string): void;
   updateSelection(from: number, to: number): void;
   addEventListener(type: string, task: (event: any) => void): void;
+}
+
+declare class CompressionStream {
+  constructor(format: string);
+  readable: ReadableStream;
+  writable: WritableStream;
 }
 
 declare class DecompressionStream {

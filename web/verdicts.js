@@ -2,13 +2,20 @@
 /* The verdict lines that the page shows, each in a place of its own: that of the file that is open, and that of the recording that
  * was saved. Each check has a worker of its own, the clerk. */
 import { app } from "./app.js";
-import { el, grouped, many, named, notice } from "./elements.js";
+import { el, grouped, made, many, named, notice } from "./elements.js";
 import { readLine } from "./lines.js";
 import { Helper } from "./requests.js";
 import { PER_SECOND } from "./states.js";
 
 export const STATUSES = ["accepted", "false", "refused"];
 const OF_ONE_CALL = "This line is that of one call of the proved check, over the whole recording.";
+
+/** Returns a headline in parts: how much machine time was checked is left out in a narrow window.
+ * @param {string} text */
+function headlineParts(text) {
+  const [, before, spare, after] = /^(.*?)(, [\d.]+ s of machine time)(.*)$/.exec(text) ?? [];
+  return spare === undefined ? [text] : [before, made("span", spare, "spare"), after];
+}
 
 /** A check that is under way: when it began, and what was heard of it.
  * @typedef {{ begun: number, done: number } & CheckNews} CheckWork */
@@ -49,7 +56,7 @@ class Verdict {
     this.part("line").textContent = line ?? "";
     const isEmpty = this.read.accepted?.checkpoints === 0;
     this.part("line").className = `line ${status === null || isEmpty ? "note" : STATUSES[status]}`;
-    this.part("headline").textContent = headlineOf(this.read) || line;
+    this.part("headline").replaceChildren(...headlineParts(headlineOf(this.read) || (line ?? "")));
     this.part("headline").className = this.part("line").className;
     this.part("how").textContent = how;
   }

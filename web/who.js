@@ -1,10 +1,14 @@
 // @ts-check
 /* Who drew this dot, and who wrote this: a card with the instruction that wrote it last. */
+import { bothOf } from "./addresses.js";
 import { app } from "./app.js";
 import { showCard } from "./card.js";
+import { callersAt } from "./code.js";
 import { attempt, button, el, grouped, made, notice, paragraph, write } from "./elements.js";
 import { instruction } from "./instructions.js";
+import { followCounter } from "./listing.js";
 import { lookAt, shownCount } from "./look.js";
+import { whereText } from "./names.js";
 import { dotAt, LINE_BYTES } from "./screen.js";
 import { stopSearch } from "./search.js";
 import { AT, DISPLAY_AT, field, hex, REGISTERS } from "./states.js";
@@ -46,8 +50,18 @@ export function showWho(given) {
   if (!isShown) showCard(asking.title, partsOfAnswer(answer, asking), forgetAsked);
   asking = { ...asking, answer };
   write("who-where", answerText(answer, asking.about));
+  if (!isShown && at !== undefined && answer.pc !== undefined) attempt(() => nameWho(at, Number(answer.pc)));
   write("who-again", stored ? `Instruction ${grouped(Number(stored.at))} wrote the same again.` : "");
   if (!asking.isOn) el("who-search")?.remove();
+}
+
+/** Says by name where the instruction of an answer is, and who probably called that.
+ * @param {number} at
+ * @param {number} pc */
+async function nameWho(at, pc) {
+  write("who-name", whereText(4 * pc));
+  const callers = await callersAt(at);
+  if (asking?.answer?.at === at) write("who-calls", callers);
 }
 
 /** What a card has of a search that is under way: how far it is, and a button that ends it. */
@@ -69,27 +83,35 @@ export function showAsked({ request, done, of }) {
  */
 function partsOfAnswer(answer, { about, title, isOn }) {
   const { at, state } = answer, searching = isOn ? partsOfSearch() : [], where = Object.assign(paragraph("", ""), { id: "g-who-where" });
+  const name = Object.assign(made("bdi", "", "name"), { id: "g-who-name" }), calls = Object.assign(made("bdi", "", "hint"), { id: "g-who-calls" });
   const again = Object.assign(made("div", "", "hint"), { id: "g-who-again" });
   if (at === undefined) return [where, again, ...searching];
-  const buttons = [button("Jump", () => lookAt(at)), button("Earlier", () => askWho(about, title, at))];
+  const buttons = [button("Jump", () => jumpTo(at)), button("Earlier", () => askWho(about, title, at))];
   if (!state) return [where, ...buttons, again, ...searching];
   if (answer.word === undefined) return [where, paragraph("PC is outside memory.", "instruction"), ...buttons, ...searching];
-  return [where, instructionLine(answer), ...buttons, again, ...searching, made("code", registersText(state))];
+  return [where, name, instructionLine(answer), calls, ...buttons, again, ...searching, made("code", registersText(state))];
+}
+
+/** Looks at a count, with the instruction there in sight.
+ * @param {number} at */
+export async function jumpTo(at) {
+  await lookAt(at);
+  followCounter();
 }
 
 /** Says what wrote something: an instruction, an input, or none.
  * @param {Written} answer
  * @param {About} about */
-function answerText({ at, pc, sure, input, stopped }, { register, device }) {
+export function answerText({ at, pc, sure, input, stopped }, { register, device }) {
   if (stopped && at === undefined) return "The search was stopped.";
   if (input) return `The input ${input[1]} ${hex(input[2], 2)} before instruction ${grouped(at ?? 0)}: sure`;
   const soFar = stopped ? "probably; the search was stopped" : "probably; still searching";
-  if (at !== undefined) return `Instruction ${grouped(at)}, PC ${pc}: ${sure ? "sure" : soFar}`;
+  if (at !== undefined) return `Instruction ${grouped(at)}, PC ${bothOf(4 * Number(pc))}: ${sure ? "sure" : soFar}`;
   return `No instruction: it is as in the initial ${(register ?? device) === undefined ? "memory" : "state"}.`;
 }
 
-/** @param {Written} written */
-function instructionLine({ word, pc }) {
+/** @param {{ word?: number, pc?: number }} written */
+export function instructionLine({ word, pc }) {
   const [mnemonic, meaning] = instruction(Number(word), Number(pc)), line = paragraph(`${mnemonic}  `, "instruction");
   line.append(made("span", meaning));
   return line;

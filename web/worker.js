@@ -1,8 +1,10 @@
 // @ts-check
-/* The script of the workers: it answers the page's requests. Four kinds of workers run it. One has the live machine and records it
+/* The script of the workers: it answers the page's requests. Five kinds of workers run it. One has the live machine and records it
  * (live.js). Another, the clerk, checks (clerk.js). A third one looks into the past (past.js), which the live one reports through a port;
- * the crew search for it. A request is `{id, ask, ..}`, and its answer `{id, answer}`, `{id, refused}` with a line for the user, or
- * `{id, broken}` for a bug in this script. Messages that answer no request have no id, and a request without an id gets no answer. */
+ * the crew search for it. The last one assembles sources (assembler/tasks.js). A request is `{id, ask, ..}`, and its answer
+ * `{id, answer}`, `{id, refused}` with a line for the user, or `{id, broken}` for a bug in this script. Messages that answer no request
+ * have no id, and a request without an id gets no answer. */
+import { ASSEMBLER } from "./assembler/tasks.js";
 import { CLERK } from "./clerk.js";
 import { searchedOn } from "./crew.js";
 import { TIMELINE } from "./lanes.js";
@@ -30,6 +32,11 @@ const PAST = {
   who: (/** @type {Requests["who"][0]} */ given) => history.searches.who(given),
   recheck: (/** @type {Requests["recheck"][0]} */ given) => history.searches.recheck(given),
   changes: (/** @type {Requests["changes"][0]} */ given) => history.cells.changes(given),
+  visits: (/** @type {Requests["visits"][0]} */ given) => history.visits.visits(given),
+  span: (/** @type {Requests["visits"][0]} */ given) => history.spans.visits(given),
+  program: (/** @type {Requests["program"][0]} */ given) => history.whereabouts.program(given),
+  trace: (/** @type {Requests["trace"][0]} */ given) => history.tracing.trace(given),
+  stopTrace: () => history.tracing.stop(),
   stopSearch: () => history.searches.stop(),
   /** Takes one more worker for searches, by its port.
    * @param {{ port: MessagePort }} given */
@@ -57,7 +64,7 @@ const CREW = {
 // All
 
 /** @type {{ [ask: string]: (given: any) => unknown }} */
-const TASKS = { start, ...LIVE, ...TIMELINE, ...CLERK, ...PAST, ...CREW };
+const TASKS = { start, ...LIVE, ...TIMELINE, ...CLERK, ...PAST, ...CREW, ...ASSEMBLER };
 
 onmessage = ({ data: { id, ask, ...given } }) => {
   /** @param {object} message */

@@ -2,6 +2,7 @@
 /* A work: the recording in progress of one run of the machine, as far as the page knows and the browser keeps it. A run that is taken over
  * from its past, and what it was before, are two works, branches of one family. */
 import { INPUT, INPUT_BYTES } from "./layout.js";
+import { symbolFile } from "./names.js";
 import { joined, KEY, SERIAL } from "./states.js";
 
 /** What came for a machine since its recording was taken at some count: inputs, checkpoints, and what was typed. Its run follows from that
@@ -127,8 +128,8 @@ export class Work {
 
   /** Returns what the browser keeps beside the machine. */
   get labels() {
-    const { name, sent, family, number, parent } = this;
-    return family === undefined ? { name, sent } : { name, sent, family, number, parent };
+    const { name, sent, family, number, parent } = this, named = symbolFile();
+    return { name, sent, ...(family === undefined ? {} : { family, number, parent }), ...(named ? { symbols: named } : {}) };
   }
 
   /** Takes the item of an id, if no other page has it. Returns whether this page has it now.
@@ -156,7 +157,7 @@ export class Work {
 
 /** Takes the lock of an item: returns how to release it, or null if another page has it. A browser without locks has none that
  * another could have: there each write looks whether another page wrote the item since.
- * @param {number} id
+ * @param {number | string} id
  * @returns {Promise<{ release: () => void, isLocked: boolean } | null>} */
 export function locked(id) {
   const free = { release: () => {}, isLocked: false };

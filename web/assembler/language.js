@@ -1,0 +1,53 @@
+// @ts-check
+/* The assembler's language as the tools and the page have it in common: names, numbers, and the texts of mistakes. */
+import { advice as advices, mistakes, notes } from "../../tools/galluspa/assembler.json";
+
+/** What is put into a text. A number may be written with commas, or in hexadecimal, as the text says.
+ * @typedef {{ [name: string]: string | number | bigint }} Given */
+
+/** Writes a number with commas between its thousands.
+ * @param {string | number | bigint} number */
+const withCommas = (number) => `${number}`.replace(/\B(?=(?:\d{3})+$)/g, ",");
+
+/**
+ * @param {string | number | bigint} value
+ * @param {string} [form]
+ */
+function written(value, form) {
+  if (form === ":,") return withCommas(value);
+  return form === ":X" ? value.toString(16).toUpperCase() : `${value}`;
+}
+
+/**
+ * @param {string} text
+ * @param {Given} given
+ */
+const filled = (text, given) => text.replace(/\{(\w+)(:[,X])?\}/g, (_, name, form) => written(given[name], form));
+
+/** Returns what a text of a mistake goes on with: what may be meant, or what to write.
+ * @param {keyof typeof advices} name
+ * @param {Given} given */
+export const advice = (name, given = {}) => filled(advices[name], given);
+
+/** Returns the text of a note, which is no mistake.
+ * @param {keyof typeof notes} name
+ * @param {Given} given */
+export const note = (name, given = {}) => filled(notes[name], given);
+
+/** Returns the text of a mistake.
+ * @param {keyof typeof mistakes} name
+ * @param {Given} given */
+export const mistake = (name, given = {}) => filled(mistakes[name], given);
+
+/** What is wrong at a column of a line, counted from 1. */
+export class Wrong {
+  /**
+   * @param {number} column
+   * @param {keyof typeof mistakes} name
+   * @param {Given} given
+   */
+  constructor(column, name, given = {}) {
+    this.column = column;
+    this.text = mistake(name, given);
+  }
+}

@@ -1,0 +1,44 @@
+// @ts-check
+/* The page's first script: it unpacks the page's own one, and runs it. The policy of the page names the hashes of both. */
+import { beginUnpacking, unpacked } from "./packed.js";
+
+// A report that the page makes has the machine as it is before anything changes it: all that comes before this script, which ends it.
+const { innerHTML } = document.currentScript?.parentElement ?? document.body;
+Object.assign(globalThis, { machineAsBuilt: `${innerHTML.slice(innerHTML.indexOf('<div id="galluspa">'))}\n` });
+
+// A report says its name before the page's own script is there to hear it.
+Object.assign(globalThis, { beginReport: (/** @type {string} */ name) => (document.documentElement.dataset.report = name) });
+
+/** @param {Bytes} bytes */
+function runScript(bytes) {
+  document.head.append(Object.assign(document.createElement("script"), { textContent: new TextDecoder().decode(bytes) }));
+}
+
+/** @param {Error} error */
+function showFailure(error) {
+  const notice = document.getElementById("g-notice");
+  if (notice) notice.textContent = `This browser cannot run the page: ${error.message}`;
+}
+
+/** Keeps the clicks on buttons that come before the page's own script hears them. What is returned does them again, and keeps no more.
+ * @returns {() => void} */
+function keepClicks() {
+  /** @type {HTMLElement[]} */
+  const clicked = [];
+  /** @param {Event} event */
+  const keep = ({ target }) => {
+    const button = target instanceof Element ? target.closest("button") : null;
+    if (button?.type === "button") clicked.push(button);
+  };
+  addEventListener("click", keep, true);
+  return () => {
+    removeEventListener("click", keep, true);
+    for (const button of clicked) button.click();
+  };
+}
+
+const wholePage = document.readyState === "loading" ? new Promise((goOn) => addEventListener("DOMContentLoaded", goOn)) : Promise.resolve();
+const clickAgain = keepClicks();
+unpacked("main").then(runScript).then(() => wholePage).then(clickAgain).catch(showFailure);
+// A report starts its machine at the first use; the page needs these at once.
+if (!document.getElementById("g-recording")) for (const name of ["module", "worker"]) beginUnpacking(name);
