@@ -18,6 +18,7 @@ LONGEST = [
     "test_documents",
     "test_recipes",
     "test_session",
+    "test_fuzz",
     "test_coverage",
     "test_slices",
     "test_bisect",
@@ -62,7 +63,7 @@ def pytest_collection_modifyitems(config: pytest.Config, items: list[pytest.Item
 
 
 def part_of(item: pytest.Item) -> set[str]:
-    """The part of the page that a test is of."""
+    """Returns the part of the page that a test is of."""
     return {str(mark.args[0]) for mark in item.iter_markers("part")}
 
 

@@ -55,7 +55,7 @@ class Library:
             getattr(self.c, f"galluspa_{name}").restype = ctypes.c_uint8
 
     def answer(self, name: str, given: bytes, room: int) -> tuple[int, bytes, int]:
-        """The result, what was written at the front of `room` bytes, whether anything was written, and the status."""
+        """Returns the result, what was written at the front of `room` bytes, whether anything was written, and the status."""
         out, status = ctypes.create_string_buffer(b"\xaa" * room, room + 1), ctypes.c_uint8(77)
         size = ctypes.c_size_t
         result = getattr(self.c, f"galluspa_{name}")(given, size(len(given)), out, size(room), ctypes.byref(status))
@@ -65,7 +65,7 @@ class Library:
         return result, out.raw[:result], status.value
 
     def claim(self, text: bytes, at: int, length: int = WORDS) -> tuple[int, State, Words]:
-        """The result, and the state and the words that a checkpoint claims. Nothing is to be written if it is refused."""
+        """Returns the result, and the state and the words that a checkpoint claims. Nothing is to be written if it is refused."""
         state, words = State(count=7), (ctypes.c_uint32 * length)()
         code = self.c.galluspa_claim(
             text, ctypes.c_size_t(len(text)), ctypes.c_uint32(at), ctypes.byref(state), words, ctypes.c_size_t(length)
@@ -75,7 +75,7 @@ class Library:
         return code, state, words
 
     def advance(self, state: State, words: Words, inputs: Sequence[Input], to: int, room: int = 1 << 20) -> tuple[int, bytes]:
-        """The result and the bytes sent. Nothing is to be changed where it is refused."""
+        """Returns the result and the bytes sent. Nothing is to be changed where it is refused."""
         before = bytes(state), bytes(words)
         given = (Input * len(inputs))(*inputs)
         sent, count, size = ctypes.create_string_buffer(room + 1), ctypes.c_size_t(77), ctypes.c_size_t
@@ -97,7 +97,7 @@ class Library:
     def find(
         self, state: State, words: Words, inputs: Sequence[Input], to: int, conditions: Sequence[Sought], wanted: int
     ) -> tuple[int, tuple[int, int] | None]:
-        """The result of a search, and the count and the index of the hit. Nothing is to be changed unless there is one."""
+        """Returns the result of a search, and the count and the index of the hit. Nothing is to be changed unless there is one."""
         before = bytes(state), bytes(words)
         given, asked = (Input * len(inputs))(*inputs), (Condition * len(conditions))(*(Condition(*it) for it in conditions))
         hit, size = Hit(77, 78), ctypes.c_size_t
@@ -120,8 +120,8 @@ class Library:
     def profile(
         self, state: State, words: Words, inputs: Sequence[Input], to: int, lengths: tuple[int, int] = (WORDS, WORDS)
     ) -> tuple[int, "array[int]", "array[int]"]:
-        """The result of counting, the visits and the departures, in arrays of these lengths. Nothing else is to be changed, and nothing
-        is to be written if it is refused."""
+        """Returns the result of counting, the visits and the departures, in arrays of these lengths. Nothing else is to be changed,
+        and nothing is to be written if it is refused."""
         before, size = (bytes(state), bytes(words)), ctypes.c_size_t
         given, counts = (Input * len(inputs))(*inputs), [(ctypes.c_uint64 * length)() for length in lengths]
         for it in counts:
@@ -143,8 +143,8 @@ class Library:
         return code, array("Q", bytes(counts[0])), array("Q", bytes(counts[1]))
 
     def steps(self, state: State, words: Words, inputs: Sequence[Input], number: int) -> tuple[int, list[Processor]]:
-        """The result of a trace, and the processors at so many counts. Nothing else is to be changed, and nothing is to be written if it
-        is out of range."""
+        """Returns the result of a trace, and the processors at so many counts. Nothing else is to be changed, and nothing is to be
+        written if it is out of range."""
         before, size = (bytes(state), bytes(words)), ctypes.c_size_t
         given, steps = (Input * len(inputs))(*inputs), (Processor * (number + 1))()
         ctypes.memset(steps, 0xAA, ctypes.sizeof(steps))
@@ -155,7 +155,8 @@ class Library:
         return code, list(steps[:number])
 
     def written(self, name: str, given: Sequence[object], room: int) -> tuple[int, bytes, int]:
-        """The result of a call, what it wrote, and the count. Nothing but the count is to be changed where it is refused."""
+        """Returns the result of a call, what it wrote, and the count. Nothing but the count is to be changed where it is
+        refused."""
         if room > len(self.buffer):
             self.buffer = ctypes.create_string_buffer(room)
         out, count, size = self.buffer, ctypes.c_size_t(77), ctypes.c_size_t
@@ -166,13 +167,13 @@ class Library:
         return code, ctypes.string_at(out, count.value) if not code else b"", count.value
 
     def begin(self, state: State, words: Words, room: int = 1 << 21) -> tuple[int, bytes, int]:
-        """The result of beginning a recording, and the recording with its length."""
+        """Returns the result of beginning a recording, and the recording with its length."""
         return self.written("begin", (ctypes.byref(state), words, ctypes.c_size_t(len(words))), room)
 
     def extend(
         self, text: bytes, inputs: Inputs, state: State, words: Words, sent: bytes, room: int = 1 << 21
     ) -> tuple[int, bytes, int]:
-        """The result of extending a recording, and the longer recording with its length."""
+        """Returns the result of extending a recording, and the longer recording with its length."""
         size = ctypes.c_size_t
         given = inputs if isinstance(inputs, ctypes.Array) else (Input * len(inputs))(*inputs)
         return self.written(

@@ -89,7 +89,7 @@ def compare_answers(library: Library) -> None:
 
 
 def inputs_and_last(text: bytes) -> tuple[list[Input], int]:
-    """The inputs of a recording, and the number of its last checkpoint."""
+    """Returns the inputs of a recording, and the number of its last checkpoint."""
     recording = read(text)
     return [Input(it.count, it.kind, it.value) for it in recording.events], len(recording.checkpoints) - 1
 

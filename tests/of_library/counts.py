@@ -37,7 +37,7 @@ WAITING = {0: imm(MOV, 1, 0, -64), 1: load(0, 1, 4), 2: branch(EQ, -2), 3: JUMP}
 
 
 def machine(words: Mapping[int, int], **fields: int) -> tuple[State, Words]:
-    """A machine with these words in memory."""
+    """Returns a machine with these words in memory."""
     state, memory = State(**fields), (ctypes.c_uint32 * WORDS)()
     for at, word in words.items():
         memory[at] = word
@@ -45,12 +45,12 @@ def machine(words: Mapping[int, int], **fields: int) -> tuple[State, Words]:
 
 
 def counted(visits: Sequence[int], departures: Sequence[int]) -> dict[int, tuple[int, int]]:
-    """What was counted of each word of which anything was."""
+    """Returns what was counted of each word of which anything was."""
     return {at: both for at, both in enumerate(zip(visits, departures, strict=True)) if any(both)}
 
 
 def processor_of(state: State) -> bytes:
-    """The processor of a state, as galluspa_processor has it."""
+    """Returns the processor of a state, as galluspa_processor has it."""
     return bytes(Processor(state.r, state.h, state.pc, state.flags, state.stop))
 
 

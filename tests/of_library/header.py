@@ -48,13 +48,13 @@ class Field:
 
 
 def group(pattern: str, text: str, flags: int = re.MULTILINE) -> str:
-    """What the group of a pattern has where it is found first."""
+    """Returns what the group of a pattern has where it is found first."""
     match = re.search(pattern, text, flags)
     return match[1] if match else fail(f"{pattern} is nowhere")
 
 
 def declared(kind: str) -> list[str]:
-    """How C declares the parameters of a type: one, or the two of a slice."""
+    """Returns how C declares the parameters of a type: one, or the two of a slice."""
     slice_of = re.fullmatch(r"&(mut )?\[(\w+)\]", kind)
     if slice_of:
         return [("" if slice_of[1] else "const ") + SCALARS[slice_of[2]] + " *", "size_t"]
@@ -63,7 +63,7 @@ def declared(kind: str) -> list[str]:
 
 
 def exports() -> Iterator[tuple[str, list[tuple[str, str]], str]]:
-    """Each export of the crate: its name, its parameters but for the allocator, and its result."""
+    """Yields each export of the crate: its name, its parameters but for the allocator, and its result."""
     text = "".join(file.read_text() for file in sorted((CRATE / "src").glob("*.rt")))
     for name, parameters, result in re.findall(r'pub extern "C" fn (\w+)\(\n(.*?)\n\) -> (\w+)\n', text, re.S):
         pairs = [line.strip().rstrip(",").split(": ") for line in parameters.split("\n")]
@@ -71,14 +71,14 @@ def exports() -> Iterator[tuple[str, list[tuple[str, str]], str]]:
 
 
 def fields_of(name: str) -> list[tuple[str, str]]:
-    """The fields of a struct of the crate, in order."""
+    """Returns the fields of a struct of the crate, in order."""
     text = "".join((CRATE / "src" / file).read_text() for file in ("raw.rt", "find.rt", "steps.rt"))
     body = group(rf"#\[repr\(C\)\]\n(?:#.*\n)*pub struct {name} {{\n(.*?)\n}}", text, re.S)
     return re.findall(r"^    pub (\w+): (.*),$", body, re.M)
 
 
 def laid_out(fields: Sequence[tuple[str, str]]) -> tuple[list[Field], int]:
-    """The fields in the layout of C, and the size of the whole."""
+    """Returns the fields in the layout of C, and the size of the whole."""
     found, at, widest = list[Field](), 0, 1
     for name, kind in fields:
         array = re.fullmatch(r"\[(\w+); (\d+)\]", kind)
@@ -90,7 +90,8 @@ def laid_out(fields: Sequence[tuple[str, str]]) -> tuple[list[Field], int]:
 
 
 def constants() -> Iterator[tuple[str, int]]:
-    """What the enumerators of the header have to be, by the crate: answers, limits, kinds of conditions, and which count is wanted."""
+    """Yields what the enumerators of the header have to be, by the crate: answers, limits, kinds of conditions, and which count is
+    wanted."""
     for name, value in re.findall(r"^pub const (\w+): \w+ = (\d+);$", (CRATE / "src/refusal.rt").read_text(), re.M):
         yield f"GALLUSPA_{name}", int(value)
     for name, (own, file) in LIMITS.items():
@@ -103,7 +104,8 @@ def constants() -> Iterator[tuple[str, int]]:
 
 
 def kinds(text: str) -> Iterator[tuple[str, int]]:
-    """The kinds of conditions, as the crate reads their numbers: a condition, or a function that makes one, in an arm of its own."""
+    """Yields the kinds of conditions, as the crate reads their numbers: a condition, or a function that makes one, in an arm of its
+    own."""
     body = group(r"^fn condition_of\(.*?^    match raw\.kind {\n(.*?)^    }", text, re.M | re.S)
     for kind, arm in re.findall(r"^        (\d+)\b(.*?)(?=^        \w)", body, re.M | re.S):
         made = re.search(r"Condition::(\w+)", arm) or re.search(r"=> (\w+)\(", arm) or fail(f"kind {kind} makes nothing")
@@ -112,7 +114,7 @@ def kinds(text: str) -> Iterator[tuple[str, int]]:
 
 
 def header_test() -> str:
-    """A C file that compiles only where the header declares what the crate exports."""
+    """Returns a C file that compiles only where the header declares what the crate exports."""
     lines = ['#include "galluspa.h"']
     for name, parameters, result in exports():
         types = [kind for _, given in parameters for kind in declared(given)]
@@ -133,12 +135,12 @@ def header_test() -> str:
 
 
 def declared_constants() -> dict[str, str]:
-    """The enumerators of the header, with their values as it writes them."""
+    """Returns the enumerators of the header, with their values as it writes them."""
     return dict(re.findall(r"\b(GALLUSPA_\w+) = (\w+)", (TOP / "include/galluspa.h").read_text()))
 
 
 def c_names(header: str) -> Iterator[tuple[str, list[str]]]:
-    """The names of the parameters of each function that the header declares; a length after its pointer is left out."""
+    """Yields the names of the parameters of each function that the header declares; a length after its pointer is left out."""
     for name, parameters in re.findall(r"^\w+ (galluspa_\w+)\((.*?)\);", header, re.S | re.M):
         names = [group(r"(\w+)$", it.strip()) for it in parameters.split(",")]
         yield name, [it for it in names if not any(it == f"{other}_len" for other in names)]

@@ -11,7 +11,7 @@ Memory = Words | memoryview
 
 
 def accessed(state: State, words: Memory) -> tuple[bool, range] | None:
-    """Whether the next instruction stores, and the addresses of the bytes that it accesses; None if it accesses none."""
+    """Returns whether the next instruction stores, and the addresses of the bytes that it accesses; None if it accesses none."""
     if state.stop or state.pc >= WORDS or words[state.pc] >> 30 != 2:
         return None
     word = words[state.pc]
@@ -23,15 +23,15 @@ def accessed(state: State, words: Memory) -> tuple[bool, range] | None:
 
 
 def register(state: State, number: int) -> int:
-    """A register, H or the flags, by the number that a condition has for it."""
+    """Returns a register, H or the flags, by the number that a condition has for it."""
     return state.r[number] if number < 16 else (state.h, state.flags)[number - 16]
 
 
 def holds(
     condition: Sought, before: State, after: State, memory: Memory, later: Memory, inputs: Sequence[Input], sent: bytes
 ) -> bool:
-    """Whether a condition holds at a step: by the machine and its memory before and after it, the inputs of its count, and what it
-    sent."""
+    """Returns whether a condition holds at a step: by the machine and its memory before and after it, the inputs of its count, and
+    what it sent."""
     kind, first, end, value = condition
     stores, reached = accessed(before, memory) or (False, range(0))
     within = any(first <= byte < end for byte in reached)

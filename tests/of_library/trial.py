@@ -19,7 +19,7 @@ def fail(why: str) -> NoReturn:
 
 
 def run(*words: str | bytes | Path, given: bytes | None = None, limit: float | None = 300, **more: Any) -> tuple[bytes, int]:
-    """What a command printed on both outputs, and its status."""
+    """Returns what a command printed on both outputs, and its status."""
     ran = subprocess.run(list(words), input=given, stdout=subprocess.PIPE, stderr=subprocess.STDOUT, timeout=limit, **more)
     return ran.stdout, ran.returncode
 

@@ -20,6 +20,7 @@ const withLines = (script, lines) => script.replace(/\}\)\(\);\s*$/, (end) => `$
 (0, eval)(withLines(workerScript, `globalThis.tell = (data) => onmessage({ data });
 globalThis.runToLast = () => turnTo(machine.planned.at(-1) ?? 0, Infinity);
 globalThis.cut = cutAll;
+globalThis.operands = operandsOf;
 globalThis.times = { pages: () => differingPages(new Uint8Array(MEMORY_BYTES), new Uint8Array(MEMORY_BYTES)), feed: () => machine.feed() };
 globalThis.joinStretches = (bytes, size) => unlessRefused(() => new Checker(machine, size).line(machine.lawful(bytes), () => {}));
 function cutAll(bytes, ends) {
@@ -28,25 +29,33 @@ function cutAll(bytes, ends) {
 }`));
 // The page's own script is only asked for its functions of one value.
 globalThis.addEventListener = () => {};
-(0, eval)(withLines(part("script"), "globalThis.ofPage = { instruction, codesOf };"));
+globalThis.document = { readyState: "loading" };
+(0, eval)(withLines(unpacked("main").toString(), "globalThis.ofPage = { instruction, codesOf };"));
 
 const encoded = (_, value) => (value instanceof Uint8Array ? Buffer.from(value).toString("base64") : value);
 
 /** The answer of the worker to a request; bytes are given in base64. `record` opens a session, runs it to its last checkpoint, and has the
  * recording. `cut` has the stretches of a recording, and `join` the line that those of about so many steps make. `time` has the least time of a task. */
-function answerTo([ask, given]) {
-  if (ask === "instruction") return { answer: ofPage.instruction(...given) };
+async function answerTo([ask, given]) {
+  if (ask === "instruction") return { answer: [...ofPage.instruction(...given), operands(given[0])] };
   const { base64, ...rest } = given;
   const content = base64 === undefined ? {} : { bytes: new Uint8Array(Buffer.from(base64, "base64")) };
   if (ask === "cut") return JSON.parse(JSON.stringify({ answer: cut(content.bytes, rest.ends) }, encoded));
   if (ask === "time") return { answer: leastTime(times[given.what]) };
   if (ask === "join") return { answer: joinStretches(content.bytes, rest.size) };
-  tell({ id: 1, ask: ask === "record" ? "openSession" : ask, ...rest, ...content });
+  await told({ ask: ask === "record" ? "openSession" : ask, ...rest, ...content });
   if (ask === "record" && "answer" in said) {
     runToLast();
-    tell({ id: 1, ask: "recording" });
+    await told({ ask: "recording" });
   }
   return JSON.parse(JSON.stringify({ ...said, id: undefined }, encoded));
+}
+
+/** Asks the worker, and returns once it has answered. */
+async function told(request) {
+  said = null;
+  tell({ id: 1, ...request });
+  while (!said) await new Promise((done) => setImmediate(done));
 }
 
 /** The least time of a processor that a task takes, in ms, of a few turns: what else the machine does meanwhile does not count. */
@@ -59,8 +68,11 @@ function leastTime(task) {
   }));
 }
 
-tell({ id: 0, ask: "start", module: module_ });
-const lines = readline.createInterface({ input: process.stdin });
-lines.on("line", (line) => console.log(JSON.stringify(answerTo(JSON.parse(line)))));
-// The worker's channel would keep node from ending; and an end before all is written would cut it off.
-lines.on("close", () => process.stdout.write("", () => process.exit(0)));
+async function answerAll() {
+  await told({ ask: "start", module: module_ });
+  for await (const line of readline.createInterface({ input: process.stdin })) console.log(JSON.stringify(await answerTo(JSON.parse(line))));
+  // The worker's channel would keep node from ending; and an end before all is written would cut it off.
+  process.stdout.write("", () => process.exit(0));
+}
+
+answerAll();

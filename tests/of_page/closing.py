@@ -55,11 +55,11 @@ class Person(Desk):
         self.page.wait("app.work.isStored && !app.work.isNewer")
 
     def count(self) -> int:
-        """The count that is shown."""
+        """Returns the count that is shown."""
         return self.page.answer(COUNT)
 
     def kept(self) -> list[tuple[str, int, int]]:
-        """What the page offers of what is kept: the branch of each, its count and its inputs."""
+        """Returns what the page offers of what is kept: the branch of each, its count and its inputs."""
         self.page.wait(f"{KEPT}.length")
         texts = self.page.answer(KEPT)
         found = [it for it in map(ITEM.fullmatch, texts) if it]
@@ -74,7 +74,7 @@ class Person(Desk):
         self.page.wait(f"{WORD} === 'PAUSED' && document.getElementById('g-run').textContent === 'Run'")
 
     def keys(self) -> str:
-        """The keys of the recording of what is open, which the program accepts."""
+        """Returns the keys of the recording of what is open, which the program accepts."""
         self.page.answer("document.getElementById('g-own-line').textContent = ''")
         self.press_button("#g-save-recording")
         recording = self.saved("draw-live.orsr")

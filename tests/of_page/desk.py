@@ -15,13 +15,15 @@ CTRL, SHIFT = 2, 8
 
 
 def shown(name: str) -> str:
-    """The expression for the text of an element of the page."""
+    """Returns the expression for the text of an element of the page."""
     return f"document.getElementById('g-{name}').textContent"
 
 
 # The verdict line of the file that is open and how it came, that of the recording that was saved, and what is said of a file that is refused.
 LINE, HOW, OWN_LINE, REFUSED_LINE = shown("line"), shown("how"), shown("own-line"), shown("refused")
-NOTICE, SENT, MODE = shown("notice"), shown("out"), shown("mode")
+NOTICE, SENT = shown("notice"), shown("out")
+# The name of the machine, its state in a word, and what that means.
+MODE = f"({shown('mode')} + ' ' + {shown('mode-text')})"
 JUDGED = f"{LINE} && !verdicts.file.clerk && {LINE} !== 'stopped: no verdict'"
 OWN_JUDGED = f"{OWN_LINE} && !verdicts.own.clerk"
 DRAWN = "pixelsSet()"
@@ -53,7 +55,7 @@ def expect(what: str, found: object, wanted: object) -> None:
 
 @cache
 def program(command: str, text: bytes) -> tuple[str, int]:
-    """The line that the program prints of a text, and the status."""
+    """Returns the line that the program prints of a text, and the status."""
     ran = run([PROGRAM, command], text)
     return ran.output.decode().rstrip("\n"), ran.status
 
@@ -188,7 +190,7 @@ class Desk:
         return recording
 
     def saved(self, name: str) -> bytes:
-        """A file that the page saved, once it is whole."""
+        """Returns a file that the page saved, once it is whole."""
         path, end = self.folder / name, time.monotonic() + browser.PATIENCE
         while not self.page.has_saved(name):
             if time.monotonic() > end:
@@ -199,7 +201,7 @@ class Desk:
         return content
 
     def screen(self) -> tuple[float, float, float]:
-        """The left and the upper end of the screen, and its width."""
+        """Returns the left and the upper end of the screen, and its width."""
         return self.page.answer("(({ left, top, width }) => [left, top, width])(el('screen').getBoundingClientRect())")
 
     def expect_sound(self) -> None:

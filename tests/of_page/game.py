@@ -63,7 +63,7 @@ def play(desk: Desk) -> None:
 
 
 def written_points(desk: Desk) -> int:
-    """The points that the machine has drawn in the wall above: three digits of five rows of three squares."""
+    """Returns the points that the machine has drawn in the wall above: three digits of five rows of three squares."""
     dots = page_dots(desk)
     is_white = lambda x, y: not dots[128 * y + x // 8] >> x % 8 & 1
     squares = lambda column: tuple(

@@ -29,7 +29,7 @@ def click(page: browser.Page, x: float, y: float, hold: float = 0) -> None:
 
 
 def key_changes(recording: bytes) -> list[int]:
-    """The counts at which the mouse's keys change."""
+    """Returns the counts at which the mouse's keys change."""
     words = [(0, 0), *((it.count, it.value) for it in galluspa.recording.read(recording).events if it.kind == MOUSE)]
     return [count for (_, before), (count, now) in zip(words, words[1:]) if (before ^ now) & KEYS]
 
@@ -225,7 +225,7 @@ def wait_quietly(desk: Desk) -> None:
 
 
 def changing(expression: str) -> str:
-    """Whether a value becomes another one within two seconds."""
+    """Returns whether a value becomes another one within two seconds."""
     return f"""(async () => {{
       const first = {expression};
       for (let k = 0; k < 40 && {expression} === first; k++) await new Promise((done) => setTimeout(done, 50));
@@ -234,7 +234,7 @@ def changing(expression: str) -> str:
 
 
 def json_of(name: str, **changes: object) -> bytes:
-    """An example's session with some members changed."""
+    """Returns an example's session with some members changed."""
     return json.dumps({**json.loads((EXAMPLES / name).read_text()), **changes}).encode()
 
 

@@ -14,7 +14,7 @@ BUTTONS = "[...document.querySelectorAll('#g-kept-list button')]"
 
 
 def items(page: browser.Page) -> list[list]:
-    """The name, the count and the output of each item that is kept."""
+    """Returns the name, the count and the output of each item that is kept."""
     return page.answer(ITEMS)
 
 

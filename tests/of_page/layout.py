@@ -108,6 +108,31 @@ def show_chip(desk: Desk) -> None:
     print("verdict: a chip in the first row, with the line on a click")
 
 
+def show_whole(desk: Desk) -> None:
+    """What the verdict says and what the state of the machine means are not cut, at two sizes; and the clock goes by the machine's rate."""
+    page = desk.page
+    run_to_end(desk, "face.orsr", FACE)
+    look_at(desk, 12345678)
+    for width, height in ((1366, 625), (1024, 600)):
+        page.resize(width, height)
+        page.answer(SETTLED)
+        cut = "[document.querySelector('.verdicts summary'), el('mode-text')].map((it) => it.scrollWidth > it.clientWidth)"
+        expect(f"what is cut at {width} by {height}", page.answer(cut), [False, False])
+        expect(
+            "whether what the state means is shown", page.answer("el('mode-text').innerText"), "0.3 s before now. Keys do nothing."
+        )
+    page.answer("backToNow()")
+    desk.choose("image.bin", bytes(64))
+    page.wait("!el('image').hidden")
+    page.answer("el('image-registers').value = 'PC=0 rate=1'; el('image').requestSubmit()")
+    page.wait("app.latest && !nowCount() && !el('step').disabled")
+    desk.click("step")
+    page.wait("el('count').textContent === '1 · 0.001 s'")
+    print(
+        "whole: the verdict and what the state means, at two sizes; the clock of a machine that does an instruction a millisecond"
+    )
+
+
 def hide_empty_lanes(desk: Desk) -> None:
     """Lanes without anything take no room, until something comes for them."""
     page, names = desk.page, "[...el('names').children].map((it) => it.textContent).filter(Boolean)"
@@ -172,4 +197,4 @@ def fit_phone(desk: Desk) -> None:
     print(f"phone: {high} points above the screen, which stays in sight beside an answer")
 
 
-TASKS = (fit_laptops, move_nothing, show_chip, hide_empty_lanes, turn_wheel, fit_phone)
+TASKS = (fit_laptops, move_nothing, show_chip, show_whole, hide_empty_lanes, turn_wheel, fit_phone)

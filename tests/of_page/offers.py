@@ -14,18 +14,18 @@ HEADLINE = shown("headline")
 
 
 def show_cards(desk: Desk) -> None:
-    """An empty page has two cards on a white screen, and one more once there is something to continue."""
+    """An empty page has three cards on a white screen, and one more once there is something to continue."""
     page = desk.page
     cards = "[...document.querySelectorAll('#g-welcome button')].filter((it) => it.checkVisibility()).map((it) => it.querySelector('b').textContent)"
-    expect("the cards", page.answer(cards), ["Play, rewind, ask who drew a dot", "Open a recording"])
+    expect("the cards", page.answer(cards), ["Play, rewind, ask who drew a dot", "Write a program", "Open a recording"])
     expect("whether something is drawn behind them", page.answer("screens.images.has(el('screen'))"), False)
     press_button(desk, "draw")
     page.wait("app.latest?.on && document.activeElement === el('screen')")
     page.press("a")
     page.wait(f"{SENT} === 'a' && app.work.isStored && !app.work.isNewer")
     desk.reload()
-    page.wait(f"({cards}).length === 3")
-    print("cards: two, and Continue once there is something to continue")
+    page.wait(f"({cards}).length === 4")
+    print("cards: three, and Continue once there is something to continue")
 
 
 def show_me(desk: Desk) -> None:
@@ -210,7 +210,7 @@ def drop_files(desk: Desk) -> None:
       dispatchEvent(new DragEvent("drop", {{ dataTransfer: data, cancelable: true }}));
     }})()"""
     )
-    desk.expect_notice("two files", r"Of 2 files that were dropped the first one is opened: first\.json\.")
+    desk.expect_notice("two files", r"Of 2 files that came together the first one is opened: first\.json\.")
     expect("what is open", page.answer(shown("name")), "first")
     desk.choose("empty.bin", b"")
     desk.expect_refused("empty.bin", "an empty file has nothing to open")

@@ -5,7 +5,27 @@ A task is a test. It begins with what it opens itself, since it is also run alon
 
 from collections.abc import Callable, Mapping, Sequence
 
-from of_page import game, inputs, kept, layout, names, offers, playing, replays, said, sending, stops, timeline, touch, use
+from of_page import (
+    game,
+    inputs,
+    kept,
+    layout,
+    names,
+    naming,
+    offers,
+    playing,
+    replays,
+    reporting,
+    said,
+    sending,
+    source,
+    stops,
+    timeline,
+    touch,
+    traces,
+    use,
+    walk,
+)
 from of_page.desk import Desk
 
 Task = Callable[[Desk], None]
@@ -25,9 +45,13 @@ PARTS: Mapping[str, Sequence[Task]] = {
     "replays": replays.TASKS,
     "playing": playing.TASKS,
     "names": names.TASKS,
+    "naming": naming.TASKS,
     "sending": sending.TASKS,
+    "traces": traces.TASKS,
+    "reporting": reporting.TASKS,
+    "source": (*source.TASKS, *walk.TASKS),
     "desk": use.TASKS,
 }
 
 # The names of all parts, with those that use no browser or one of their own.
-NAMES = ("build", "answers", "past", "closing", "served", "evidence", *PARTS)
+NAMES = ("build", "answers", "assembler", "past", "closing", "served", "evidence", *PARTS)

@@ -89,7 +89,7 @@ loop:   ADD R0, R0, 1
 
 
 def labels(symbols: Path) -> dict[str, int]:
-    """The words of the labels in a symbol file, whose addresses are of bytes."""
+    """Returns the words of the labels in a symbol file, whose addresses are of bytes."""
     lines = [line.split("\t")[0].split() for line in symbols.read_text().splitlines()]
     return {it[-1]: int(it[0], 16) // 4 for it in lines if len(it) > 2 and it[-2] in "td"}
 

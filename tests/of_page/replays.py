@@ -18,7 +18,7 @@ MOST_TURNS = 1500
 
 @cache
 def many(number: int) -> bytes:
-    """A recording with so many checkpoints."""
+    """Returns a recording with so many checkpoints."""
     return record(session(COUNTING, range(APART, APART * number + 1, APART)))
 
 

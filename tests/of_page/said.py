@@ -44,14 +44,14 @@ def say_full(desk: Desk) -> None:
 
 
 def with_inputs(number: int) -> bytes:
-    """A recording of a loop, with one checkpoint and so many keys before instruction 10."""
+    """Returns a recording of a loop, with one checkpoint and so many keys before instruction 10."""
     one = encoded(2, [page_of(JUMP)], [claim(0)], [Event(10, 4, 65)])
     inputs = 24 + 1024
     return one[:12] + struct.pack("<I", number) + one[16:inputs] + number * one[inputs : inputs + 16] + one[inputs + 16 :]
 
 
 def last_input(recording: bytes) -> tuple[int, ...]:
-    """The number of inputs, and the last one's count, kind and value."""
+    """Returns the number of inputs, and the last one's count, kind and value."""
     pages, number = struct.unpack_from("<II", recording, 8)
     return number, *struct.unpack_from("<QII", recording, 24 + 1024 * pages + 16 * (number - 1))
 

@@ -13,7 +13,12 @@ from of_tools.samples import EXAMPLES, JUMP, claim, encoded, page_of, record, se
 COUNT, TRACE, STATUS = shown("count"), shown("trace"), shown("status")
 LAST = 1 << 40
 # The menus, with what is in them.
-MENUS = {"examples": ("snake", "draw", "face"), "kept": ("forget-all",), "more": ("find-before", "find-next", "next", "zoom-all")}
+MENUS = {
+    "examples": ("snake", "draw", "face"),
+    "kept": ("forget-all",),
+    "more": ("find-before", "find-next", "next", "zoom-all"),
+    "source-saves": ("source-save", "source-session", "source-symbols"),
+}
 
 
 def press_button(desk: Desk, name: str) -> None:
@@ -51,8 +56,8 @@ def find_stop(desk: Desk) -> None:
         "image STOPPED at 262,144: PC left memory. The instruction at the cursor is the last one.",
     )
     expect("whether it is said that there is no code", page.answer("el('no-code').checkVisibility()"), True)
-    rows = page.answer("[...el('trace').children].map((it) => it.textContent.split(/ +/).slice(0, 3).join(' ').trim())")
-    expect("the last instructions", rows[-2:], ["262,143 262143 MOV", "262,144 262144 outside"])
+    rows = page.answer("[...el('trace').children].map((it) => it.textContent.split(/ +/).slice(0, 5).join(' ').trim())")
+    expect("the last instructions", rows[-2:], ["262,143 FFFFC · 262143 MOV", "262,144 100000 · 262144 outside"])
     press_button(desk, "back-now")
     page.wait(f"!{COUNT}.startsWith('262,144 ·')")
     expect("what is said of it now", page.answer(MODE), "image STOPPED at 262,144: PC left memory. The machine does nothing more.")
@@ -82,7 +87,7 @@ def find_other_stops(desk: Desk) -> None:
     page.wait("!isPast()")
     page.answer("registerCells.get('stop').holder.focus()")
     page.press("Enter")
-    page.wait(f"{CARD}.includes('Instruction 1, PC 1: sure')")
+    page.wait(f"{CARD}.includes('Instruction 1, PC 0004 · 1: sure')")
     desk.start("far.orsr", record(session([JUMP, 0], [1])))
     desk.start("far.orsr", record(session([0x41080001, 0x40080002, 0x400C0000], [LAST])))
     press_button(desk, "run")
@@ -187,7 +192,7 @@ KNOWN = "el('lists').lastChild?.textContent === `kept up to ${grouped(nowCount()
 
 
 def lists(desk: Desk) -> list[list[str]]:
-    """What the lanes of the screen and of the serial line have, once all of it is known."""
+    """Returns what the lanes of the screen and of the serial line have, once all of it is known."""
     desk.page.wait(KNOWN)
     return desk.page.answer(LISTS)
 
@@ -222,7 +227,7 @@ def show_lanes_of_recording(desk: Desk) -> None:
     for speed in ("fast", "clock"):
         desk.start(f"{speed}.orsr", recording)
         page.answer(f"el('speed').value = '{speed}'")
-        expect("what is said of what was not run", "not known yet from 0" in page.answer("el('lists').textContent"), True)
+        page.wait("el('lists').textContent.includes('not known yet from 0')")
         press_button(desk, "run")
         page.wait("!app.latest.isReplay && !app.latest.on")
         expect(f"the lanes of a replay, {speed}", lists(desk), wanted)

@@ -4,7 +4,8 @@ from pathlib import Path
 
 import pytest
 
-from of_page import module, past
+from of_page import assembler, module, past, symbolfiles
+from of_page.desk import PAGE
 
 
 @pytest.mark.part("build")
@@ -32,9 +33,33 @@ def test_notation() -> None:
 
 
 @pytest.mark.part("answers")
+def test_symbol_files(tmp_path: Path) -> None:
+    """The page reads symbol files as the tools do."""
+    symbolfiles.compare_files(tmp_path)
+
+
+@pytest.mark.part("answers")
+def test_callers(tmp_path: Path) -> None:
+    """The page guesses who called as the tools do."""
+    symbolfiles.compare_callers(tmp_path)
+
+
+@pytest.mark.part("answers")
 def test_times() -> None:
     """What a frame does with much takes little."""
     module.measure()
+
+
+@pytest.mark.part("assembler")
+def test_assembler() -> None:
+    """The page's assembler makes of each source what the tools make of it."""
+    assembler.compare(PAGE)
+
+
+@pytest.mark.part("assembler")
+def test_ends_of_sources(tmp_path: Path) -> None:
+    """It finds the same ends of runs."""
+    assembler.compare_ends(PAGE, tmp_path)
 
 
 @pytest.mark.part("past")

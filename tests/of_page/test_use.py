@@ -12,7 +12,7 @@ from of_page.parts import PARTS, Task
 
 
 def cases(parts: Mapping[str, Sequence[Callable[..., None]]]) -> list[Any]:
-    """The tasks of parts as cases of a test: one process runs those of a part, in their order."""
+    """Returns the tasks of parts as cases of a test: one process runs those of a part, in their order."""
     return [
         pytest.param(part, task, id=f"{part}-{task.__name__}", marks=[pytest.mark.part(part), pytest.mark.xdist_group(part)])
         for part, tasks in parts.items()

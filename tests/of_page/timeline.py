@@ -7,7 +7,7 @@ import time
 
 import galluspa.recording
 from of_page.desk import CTRL, JUDGED, OWN_LINE, SENT, SHIFT, Desk, expect, fail, program, shown
-from of_tools.samples import EXAMPLES, JUMP, PROGRAM, claim, encoded, page_of, rejoining, run, session
+from of_tools.samples import EXAMPLES, JUMP, PROGRAM, claim, encoded, in_register, page_of, rejoining, run, session
 
 FACE = (EXAMPLES / "face.orsr").read_bytes()
 WORD, CARD, WORDS = shown("state-word"), shown("card"), "el('cursor').getAttribute('aria-valuetext')"
@@ -38,13 +38,13 @@ def run_to_end(desk: Desk, name: str, text: bytes) -> None:
 
 
 def program_dots(recording: bytes, checkpoint: int) -> bytes:
-    """The dots of a checkpoint as the machine has them in memory, of the picture that the program draws."""
+    """Returns the dots of a checkpoint as the machine has them in memory, of the picture that the program draws."""
     rows = run([PROGRAM, "screen", "--at", checkpoint], recording).output[-LINE_BYTES * LINES :].translate(REVERSED)
     return b"".join(rows[LINE_BYTES * line : LINE_BYTES * (line + 1)] for line in reversed(range(LINES)))
 
 
 def page_dots(desk: Desk) -> bytes:
-    """The dots that are on the screen."""
+    """Returns the dots that are on the screen."""
     desk.page.wait("!screens.isDue")
     halves = (f"String.fromCharCode(...screens.dots.subarray({at}, {at + 49152}))" for at in (0, 49152))
     return base64.b64decode(desk.page.answer(f"btoa({' + '.join(halves)})"))
@@ -82,7 +82,7 @@ def drag(desk: Desk) -> None:
     expect(
         "the lists of the lanes",
         lists,
-        [f"Lane {name}" for name in ("checkpoints", "keys", "mouse", "serial", "screen", "hits", "keyframes")],
+        [f"Lane {name}" for name in ("checkpoints", "keys", "mouse", "serial", "screen", "code", "hits", "keyframes")],
     )
     claims = page.answer("[...el('lists').firstChild.children].map((it) => it.textContent)")
     expect("the list of the checkpoints", claims, [f"true at {count:,}" for count in (4000000, 8000000, 12000000, 20000000)])
@@ -176,7 +176,7 @@ def ask_who(desk: Desk) -> None:
     expect(
         "who drew the dot",
         found,
-        ["Who drew the dot 600,219", "Instruction 4,838,732, PC 41: sure", "STR R6, R13, 0  Mem[R13] := R6"],
+        ["Who drew the dot 600,219", "Instruction 4,838,732, PC 00A4 · 41: sure", "STR R6, R13, 0  Mem[R13] := R6"],
     )
     stale = "{ request: asking.request - 1, at: 1, pc: 1, word: 0, state: app.latest.state, sure: false }"
     page.answer(
@@ -215,8 +215,8 @@ def ask_devices(desk: Desk) -> None:
     )
     run_to_end(desk, "devices.json", keys.encode())
     for name, said in (
-        ("LEDs", r"Who wrote LEDs×Instruction [\d,]+, PC \d+: sureST.*"),
-        ("keys", r"Who wrote keys×Instruction [\d,]+, PC \d+: sureLD.*"),
+        ("LEDs", r"Who wrote LEDs×Instruction [\d,]+, PC [\dA-F]+ · \d+: sureST.*"),
+        ("keys", r"Who wrote keys×Instruction [\d,]+, PC [\dA-F]+ · \d+: sureLD.*"),
         ("mouse", r"Who wrote mouse×The input mouse 4D before instruction 100,000: sureJumpEarlier"),
         ("switches", r"Who wrote switches×No instruction: it is as in the initial state\."),
     ):
@@ -263,14 +263,14 @@ def search(desk: Desk) -> None:
         "el('search-kind').value = COUNTER; el('search-kind').dispatchEvent(new Event('change')); el('search-range').value = '0'"
     )
     desk.click("find-next")
-    page.wait(f"{shown('found')} === 'PC 0 at 0'")
+    page.wait(f"{shown('found')} === 'PC 0000 · 0 at 0'")
     desk.click("find-next")
     page.wait(f"{shown('found')} === 'There is none after it, up to now.'")
     page.answer(
         "el('search-kind').value = STORE; el('search-kind').dispatchEvent(new Event('change')); el('search-range').value = 'xyz'"
     )
     desk.click("find-before")
-    desk.expect_notice("no address", "xyz: an address is hexadecimal, ·32 for the word 32, or two as in E8000-E8003.")
+    desk.expect_notice("no address", "xyz: an address is hexadecimal, ·32 for the word 32, a name, or two as in E8000-E8003.")
     run_to_end(desk, "face.orsr", FACE)
     desk.click("tab-memory")
     page.answer("el('memory-at').value = 'EECC8'; el('memory-at').dispatchEvent(new Event('change'))")
@@ -352,8 +352,9 @@ def meet_breakpoint(desk: Desk) -> None:
     page.send_mouse("mouseReleased", x, y, time.time())
     page.wait("breaks.size")
     expect("the breakpoint beside the listing", page.answer("[...breaks]"), [6])
+    page.wait(f"{shown('break-list')} === 'no name 0018 · 60 hits up to here×'")
     desk.click("run")
-    page.wait(f"{MET} === 'PC 6 at 6'")
+    page.wait(f"{MET} === 'PC 0018 · 6 at 6'")
     expect("where the machine is paused", page.answer("[field(app.latest.state, AT.PC), nowCount(), isPast()]"), [6, 6, False])
     page.wait("el('trace').querySelector('.here')")
     desk.click("save-screen")
@@ -370,7 +371,7 @@ def meet_each(desk: Desk) -> None:
     for speed in ("fast", "clock", "fast"):
         page.answer(f"el('speed').value = '{speed}'")
         desk.click("run")
-        page.wait(f"nowCount() > {counts[-1] if counts else 6} && {MET} === `PC 13 at ${{grouped(nowCount())}}`")
+        page.wait(f"nowCount() > {counts[-1] if counts else 6} && {MET} === `PC 0034 · 13 at ${{grouped(nowCount())}}`")
         counts.append(page.answer("nowCount()"))
     first = "app.past.find({{ from: {}, to: nowCount() + 1, conditions: conditionsOfBreaks() }}).then((it) => it.at)"
     expect(
@@ -410,7 +411,33 @@ def show_false(desk: Desk) -> None:
     expect("a word and the claimed one", both, "the word at 00C04: the machine has 00000000, the recording claims 00000007.")
     page.answer("el('false-claim').querySelector('button').click()")
     page.wait(f"{CARD}.includes('initial memory')")
+    show_all_false(desk)
     print("false: the machine's part beside the claimed one, of a register and of memory, and the instruction that made it so")
+
+
+def show_all_false(desk: Desk) -> None:
+    """All other parts that differ are in a list; and where the emulator went wrong, with the command that finds the instruction."""
+    page, place = desk.page, "el('false-claim')"
+    claims = [claim(0), claim(4), claim(10, {0: 1, 3: 2}, registers=in_register(5, 9), leds=0x5A, output=b"no")]
+    many = encoded(2, [page_of(JUMP), page_of(0, 7, *[1] * 20)], claims)
+    expect("the first part", program("check", many)[0], "false checkpoint 2 at 10 part R5")
+    run_to_end(desk, "it's many.orsr", many)
+    page.wait(f"{place}.querySelector('details')")
+    page.answer(f"{place}.querySelector('summary').click()")
+    rows = page.answer(f"[...{place}.querySelectorAll('li')].map((row) => row.textContent)")
+    expect(
+        "the first of the other parts",
+        rows[:3],
+        [
+            "LEDs: the machine has 00, claimed 5A",
+            "byte 1 sent after checkpoint 1: the machine has no more of 0, claimed 6E (n) of 2",
+            "00C04: the machine has 00000000, claimed 00000007",
+        ],
+    )
+    expect("how many more", (len(rows), rows[-1]), (17, ".. and 7 more"))
+    expect("where", "Yours went wrong between 4 and 10." in page.answer(f"{place}.textContent"), True)
+    command = page.answer(f"{place}.querySelector('code').textContent")
+    expect("the command", command, "galluspa bisect 'it'\\''s many.orsr' --from 4 --to 10 -- COMMAND {count}")
 
 
 def refuse_inputs(desk: Desk) -> None:

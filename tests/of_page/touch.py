@@ -5,7 +5,7 @@ from of_page.timeline import CARD, EXACT, FACE, WORD, run_to_end
 
 
 def middle(desk: Desk, element: str) -> tuple[float, float]:
-    """The middle of an element, once it is where it stays."""
+    """Returns the middle of an element, once it is where it stays."""
     desk.page.answer("new Promise((done) => requestAnimationFrame(() => requestAnimationFrame(() => done())))")
     x, y = desk.page.answer(
         f"(({{ left, top, width, height }}) => [left + width / 2, top + height / 2])(({element}).getBoundingClientRect())"
@@ -51,7 +51,7 @@ def drag_cursor(desk: Desk) -> None:
 
 
 def track(desk: Desk) -> tuple[float, float, float]:
-    """The left and the upper end of the track, and its width."""
+    """Returns the left and the upper end of the track, and its width."""
     return desk.page.answer("(({ left, top, width }) => [left, top, width])(el('track').getBoundingClientRect())")
 
 

@@ -223,10 +223,13 @@ def step(desk: Desk) -> None:
     for count in (1, 2):
         desk.click("step")
         page.wait(f"countOf(app.latest.state) === {count}")
+    desk.click("tab-code")
+    page.wait("document.querySelector('#g-listing .here')")
     pc = page.answer("field(app.latest.state, AT.PC)")
-    listed = page.answer("document.querySelector('#g-listing .here').textContent.trim()")
-    if not listed.startswith(f"▸{pc:6}  "):
+    listed = page.answer("document.querySelector('#g-listing .here .place').textContent.trim()")
+    if not listed.startswith(f"▸{4 * pc:05X} · {pc}"):
         fail(f"the listing at {pc} shows {listed!r}")
+    desk.click("tab-state")
     if "PC" not in page.answer("[...document.querySelectorAll('#g-state dd.changed')].map((it) => it.previousSibling.textContent)"):
         fail("the change of PC is not set off")
     desk.open("face.orsr", FACE.read_bytes())

@@ -51,7 +51,8 @@ globalThis.postMessage = () => {};
 globalThis.addEventListener = () => {};
 const withLines = (script, lines) => script.replace(/\}\)\(\);\s*$/, (end) => `${lines}\n${end}`);
 (0, eval)(withLines(workerScript, "globalThis.kit = { Library, Replayer, Keyframes, readSession, readRecording, countOf, field, AT };"));
-(0, eval)(withLines(part("script"), "globalThis.ofPage = { Past, Helper, setWorkerScript };"));
+globalThis.document = { readyState: "loading" };
+(0, eval)(withLines(unpacked("main").toString(), "globalThis.ofPage = { Past, Helper, setWorkerScript };"));
 const { Library, Replayer, Keyframes, readSession, readRecording, countOf, field, AT } = kit;
 const { Past, Helper, setWorkerScript } = ofPage;
 

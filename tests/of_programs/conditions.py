@@ -61,7 +61,7 @@ class _Flags:
         self.n, self.z = bool(exact >> 31 & 1), not exact & MASK
 
     def holds(self, condition: int) -> bool:
-        """Whether a condition holds."""
+        """Returns whether a condition holds."""
         less = self.n != self.v
         held = (self.n, self.z, self.c, self.v, self.c or self.z, less, less or self.z, True)[condition & 7]
         return held != bool(condition >> 3)
@@ -92,7 +92,7 @@ def _row(*operations: _Operation) -> Row:
 
 
 def _gathered(operations: Sequence[_Operation]) -> tuple[int, int]:
-    """What R5 gathers, and how many instructions that takes."""
+    """Returns what R5 gathers, and how many instructions that takes."""
     flags, gathered, counts = _Flags(), 0, 0
     for left, (b, y) in zip(reversed(range(len(OPERANDS))), OPERANDS):
         flags.do(_Operation(ADD), TABLE, 8)
@@ -109,7 +109,7 @@ def _gathered(operations: Sequence[_Operation]) -> tuple[int, int]:
 
 
 def rows() -> Iterator[Row]:
-    """A row for each operation, with and without the carry; those that leave C and V come after one that sets them."""
+    """Yields a row for each operation, with and without the carry; those that leave C and V come after one that sets them."""
     for op in (SUB, ADD):
         for operand in (None, 1, -1):
             yield _row(_Operation(op, False, operand))

@@ -26,7 +26,7 @@ class Counted:
 
 
 def counted_in_c(counter: Path, path: Path, ranges: list[range]) -> Counted:
-    """What the machine in C counts."""
+    """Returns what the machine in C counts."""
     words = [str(end) for it in ranges for end in (it.start, it.stop)]
     ran = subprocess.run([counter, path, *words], stdout=subprocess.PIPE, check=False)
     if ran.returncode:
@@ -36,7 +36,7 @@ def counted_in_c(counter: Path, path: Path, ranges: list[range]) -> Counted:
 
 
 def counted_by_library(library: Library, machine: Machine, inputs: Inputs, ranges: list[range], to: int) -> Counted:
-    """What the library counts and traces, in a run up to the begin of the last range, and one from there on."""
+    """Returns what the library counts and traces, in a run up to the begin of the last range, and one from there on."""
     first, last = ranges
     one, processors = library.profile(machine, inputs, last.start), bytes(library.steps(machine, inputs, len(first)))
     library.advance(machine, inputs, last.start)
@@ -48,8 +48,9 @@ def counted_by_library(library: Library, machine: Machine, inputs: Inputs, range
 def differences(
     library: Library, counter: Path, text: bytes, path: Path, split: int, states: Recording
 ) -> Iterator[tuple[int, str, str]]:
-    """The counts, the parts and what shows it, wherever the library counts a run otherwise than the machine in C. The recording in a
-    file has these bytes; it is also counted in two runs, which meet at a count. The states are those of its checkpoints."""
+    """Yields the counts, the parts and what shows it, wherever the library counts a run otherwise than the machine in C. The
+    recording in a file has these bytes; it is also counted in two runs, which meet at a count. The states are those of its
+    checkpoints."""
     start, to = library.claim(text, 0), states.checkpoints[-1].count
     inputs = Inputs(states.events)
     ranges = [range(0, min(split, TRACED)), range(split, min(split + TRACED, to))]
@@ -64,7 +65,7 @@ def differences(
 
 
 def _parts_apart(found: Profile, wanted: Profile) -> Iterator[str]:
-    """The first word that is not visited, or not left, as often as is wanted."""
+    """Yields the first word that is not visited, or not left, as often as is wanted."""
     for name, one, other in (("visits", found.visits, wanted.visits), ("departures", found.departures, wanted.departures)):
         if one != other:
             at = next(at for at in range(WORDS) if one[at] != other[at])
@@ -72,7 +73,7 @@ def _parts_apart(found: Profile, wanted: Profile) -> Iterator[str]:
 
 
 def _first_apart(found: bytes, wanted: bytes, ranges: list[range]) -> tuple[int, str]:
-    """The first count at which two traces differ."""
+    """Returns the first count at which two traces differ."""
     counts = [count for it in ranges for count in it]
     size = len(wanted) // len(counts) if counts else 0
     pieces = ((count, found[size * at : size * at + size], wanted[size * at : size * at + size]) for at, count in enumerate(counts))

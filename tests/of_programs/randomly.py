@@ -46,7 +46,7 @@ CONDITIONS = (0, 1, 2, 3, 4, 5, 6, 8, 9, 10, 11, 12, 13, 14)
 
 
 def case(seed: int) -> Case:
-    """The program of a seed, how many counts it runs for, and a few of these counts."""
+    """Returns the program of a seed, how many counts it runs for, and a few of these counts."""
     rng = Random(seed)
     counts = rng.randint(60, LONGEST)
     few = rng.sample(range(1, counts), rng.randint(2, 6))
@@ -54,7 +54,7 @@ def case(seed: int) -> Case:
 
 
 def _number(rng: Random) -> int:
-    """A word: a small number, one at an edge, or any."""
+    """Returns a word: a small number, one at an edge, or any."""
     return rng.choice((rng.randrange(64), rng.choice(EDGES), rng.getrandbits(32)))
 
 
@@ -86,7 +86,7 @@ class _Writer:
         )
 
     def session(self, counts: int) -> Session:
-        """A session without checkpoints."""
+        """Returns a session without checkpoints."""
         rng = self.rng
         code, island = self._code(), self._island()
         memory = bytearray(4 * max(self.start + len(code), self.island + len(island)))
@@ -111,7 +111,7 @@ class _Writer:
         )
 
     def _places(self) -> tuple[int, int]:
-        """Where the program begins, at times across two pages or up to the end of memory; and a small part far away.
+        """Returns where the program begins, at times across two pages or up to the end of memory; and a small part far away.
 
         Some of these are whole multiples of 1,024 words apart, as a small table of decoded instructions may confuse them.
         """
@@ -123,7 +123,7 @@ class _Writer:
         return start, rng.choice(far)
 
     def _first(self) -> int:
-        """The first program counter: the program's first word, another one, or rarely one outside memory."""
+        """Returns the first program counter: the program's first word, another one, or rarely one outside memory."""
         rng = self.rng
         if rng.random() < 0.01:
             return rng.randrange(WORDS, 1 << 22)
@@ -140,7 +140,7 @@ class _Writer:
         return Event(count, KIND_NUMBERS[name], value & MOUSE if name == "mouse" else value)
 
     def _code(self) -> list[int]:
-        """The program: at its end a branch to its begin, but for a few that leave memory there."""
+        """Returns the program: at its end a branch to its begin, but for a few that leave memory there."""
         while len(self.words) < self.length:
             in_page = (self.start + len(self.words)) % 256
             if self.rng.random() < self.risk:
@@ -155,7 +155,7 @@ class _Writer:
         return self.words
 
     def _island(self) -> list[int]:
-        """The part far away: a few operations, and a return by register or by a far branch."""
+        """Returns the part far away: a few operations, and a return by register or by a far branch."""
         words = [self._harmless_operation() for _ in range(self.island_length)]
         back = self.start + self.rng.randrange(self.length) - (self.island + self.island_length) - 1
         return [*words, self.rng.choice((branch_register(ALWAYS, RETURN), branch(ALWAYS, back)))]
@@ -180,11 +180,11 @@ class _Writer:
         self.words.append(word)
 
     def _target(self) -> int:
-        """The register of a result: mostly one that holds numbers."""
+        """Returns the register of a result: mostly one that holds numbers."""
         return self.rng.randrange(16) if self.rng.random() < self.risk else self.rng.randrange(8)
 
     def _operation_word(self, op: int) -> int:
-        """An operation with any modifiers and, in bits that have no effect, anything."""
+        """Returns an operation with any modifiers and, in bits that have no effect, anything."""
         rng = self.rng
         modifiers = rng.choice((0, 0, U, V, U | V))
         a, b = self._target(), rng.randrange(16)
@@ -200,13 +200,13 @@ class _Writer:
         return rng.choice((imm, reg))(rng.randrange(MUL + 1), rng.randrange(8), rng.randrange(8), rng.randrange(8))
 
     def _branch_word(self, condition: int) -> int:
-        """A short branch within the program; few go back, since many a program would go no further."""
+        """Returns a short branch within the program; few go back, since many a program would go no further."""
         at, rng = len(self.words), self.rng
         to = at + (rng.randint(-20, 0) if rng.random() < 0.07 else rng.choice((1, 1, 2, 3, 5, rng.randint(1, 30))))
         return branch(condition, min(max(to, -1), self.length - 2) - at) | rng.getrandbits(2) << 22
 
     def _harmless(self) -> int:
-        """An instruction to store into the program's own code."""
+        """Returns an instruction to store into the program's own code."""
         rng = self.rng
         pair = imm(rng.choice((SUB, AND, ADD)), rng.randrange(8), rng.randrange(8), rng.randrange(16))
         return rng.choice((self._harmless_operation(), pair, branch(rng.randrange(16), rng.randrange(4))))
@@ -242,7 +242,8 @@ class _Writer:
         self._add(rng.choice((load, store))(rng.randrange(8), DATA, at) | rng.choice((0, 0, BYTE)))
 
     def _near(self, ahead: int = 0) -> int:
-        """The byte offset, from the program's start, of a word near the one that is written after so many more, or of any."""
+        """Returns the byte offset, from the program's start, of a word near the one that is written after so many more, or of
+        any."""
         rng = self.rng
         there = rng.choice((-2, -1, 0, 1, 1, 1, 2, 2, 3, rng.randint(-16, 16), None))
         near = rng.randrange(self.length) if there is None else len(self.words) + ahead + there

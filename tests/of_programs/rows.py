@@ -73,7 +73,7 @@ class Row:
         return Case(self.name, session, self.counts, sorted({*self.few, self.counts}))
 
     def unexpected(self, last: Checkpoint, shown_by: str) -> list[Finding]:
-        """What is not as expected at the last checkpoint."""
+        """Returns what is not as expected at the last checkpoint."""
         values = states.values(last)
         return [
             Finding(last.count, part, f"{shown_by} has {values[part]}, and {wanted} is expected")
@@ -252,7 +252,7 @@ NEW_PATCH = reg(MOV, 11, 0, 12)
 
 
 def _patched_next(name: str, patch: int, first: int, second: int, result: int, base: int = 0) -> Row:
-    """A store into the next word: of what was there at the first pass, and of something else at two more."""
+    """Returns a store into the next word: of what was there at the first pass, and of something else at two more."""
     loop = _loop(patch, PLUS_1, NEW_PATCH)
     words = {base + at: word for at, word in enumerate(loop)}
     registers = {0: 3, 8: 4 * base, 11: first, 12: second}
@@ -260,7 +260,7 @@ def _patched_next(name: str, patch: int, first: int, second: int, result: int, b
 
 
 def _patched_branch(name: str, patch: int, first: int, second: int, base: int = 0) -> Row:
-    """A store into the branch after SUB, which follows: at the first pass it stays, at two more it is taken."""
+    """Returns a store into the branch after SUB, which follows: at the first pass it stays, at two more it is taken."""
     loop = _loop(patch, imm(SUB, 2, 2, 1), SKIP_EQ, PLUS_1, NEW_PATCH)
     words = {base + at: word for at, word in enumerate(loop)}
     registers = {0: 3, 2: 100, 8: 4 * base, 11: first, 12: second}
@@ -268,7 +268,7 @@ def _patched_branch(name: str, patch: int, first: int, second: int, base: int = 
 
 
 def _patched_back(name: str, patch: int, first: int, second: int, base: int = 0) -> Row:
-    """A store into the branch after SUB, which came before: at the second pass it changes, and it is taken at two more."""
+    """Returns a store into the branch after SUB, which came before: at the second pass it changes, and it is taken at two more."""
     loop = _loop(imm(SUB, 2, 2, 1), SKIP_EQ, PLUS_1, patch, NEW_PATCH)
     words = {base + at: word for at, word in enumerate(loop)}
     registers = {0: 4, 2: 100, 8: 4 * base, 11: first, 12: second}
@@ -276,13 +276,13 @@ def _patched_back(name: str, patch: int, first: int, second: int, base: int = 0)
 
 
 def _patched_before(name: str, patch: int, first: int, second: int) -> Row:
-    """A store into the SUB whose branch follows: at the first pass it stays, at two more it is an ADD of another number."""
+    """Returns a store into the SUB whose branch follows: at the first pass it stays, at two more it is an ADD of another number."""
     loop = _loop(patch, imm(SUB, 2, 2, 1), SKIP_EQ, PLUS_1, NEW_PATCH)
     return Row(name, loop, 21, [7, 8, 9], {"R1": 2, "R2": 2, "PC": 7}, {0: 3, 2: 1, 11: first, 12: second})
 
 
 def _other_half(name: str, patch: int, first: int, second: int, start: int, expected: Mapping[str, int], counts: int) -> Row:
-    """A store into SUB or the branch after it, which stay at the first pass, and are of another kind at two more."""
+    """Returns a store into SUB or the branch after it, which stay at the first pass, and are of another kind at two more."""
     loop = _loop(patch, imm(SUB, 2, 2, 1), SKIP_EQ, PLUS_1, NEW_PATCH)
     return Row(name, loop, counts, [6, 7, 8, 9], {**expected, "PC": 7}, {0: 3, 2: start, 11: first, 12: second})
 
@@ -445,7 +445,7 @@ STORES = [
 
 
 def _at(base: int, words: Sequence[int]) -> dict[int, int]:
-    """The words from a word of memory on."""
+    """Returns the words from a word of memory on."""
     return {base + at: word for at, word in enumerate(words)}
 
 

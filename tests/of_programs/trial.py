@@ -71,7 +71,7 @@ class Witnesses:
     counter: Path
 
     def record(self, case: Case, checkpoints: Sequence[int]) -> bytes:
-        """The recording of a program with checkpoints at these counts."""
+        """Returns the recording of a program with checkpoints at these counts."""
         session = replace(case.session, checkpoints=list(checkpoints))
         ran = subprocess.run([self.program, "record"], input=session.text().encode(), stdout=subprocess.PIPE, check=False)
         if ran.returncode != ACCEPTED:
@@ -79,13 +79,13 @@ class Witnesses:
         return ran.stdout
 
     def recordings(self, case: Case) -> dict[str, bytes]:
-        """The three recordings of a program, by what checkpoints they have."""
+        """Returns the three recordings of a program, by what checkpoints they have."""
         counts = {DENSE: case.dense, FEW: case.few, ONE: [case.counts]}
         return {name: self.record(case, checkpoints) for name, checkpoints in counts.items()}
 
 
 def findings(witnesses: Witnesses, case: Case, texts: Mapping[str, bytes], folder: Path) -> list[Finding]:
-    """All that is wrong with the recordings of a program, the smallest count first."""
+    """Returns all that is wrong with the recordings of a program, the smallest count first."""
     with TemporaryDirectory(dir=folder) as own:
         files = {name: Path(own) / f"{at}.orsr" for at, name in enumerate(texts)}
         for name, text in texts.items():
@@ -100,7 +100,7 @@ def findings(witnesses: Witnesses, case: Case, texts: Mapping[str, bytes], folde
 
 
 def _checks(witnesses: Witnesses, case: Case, files: Mapping[str, Path]) -> Iterator[Finding]:
-    """What the program's check finds, with one worker and with several."""
+    """Yields what the program's check finds, with one worker and with several."""
     for name, path in files.items():
         for workers in WORKERS:
             with path.open("rb") as file:
@@ -111,24 +111,24 @@ def _checks(witnesses: Witnesses, case: Case, files: Mapping[str, Path]) -> Iter
 
 
 def _replays(witnesses: Witnesses, case: Case, files: Mapping[str, Path]) -> Iterator[Finding]:
-    """What the C replayers find."""
+    """Yields what the C replayers find."""
     for replayer, path in witnesses.replayers.items():
         ran = subprocess.run([path, *files.values()], stdout=subprocess.PIPE, check=False)
         lines = ran.stdout.decode("ascii", "replace").splitlines()
         for at, name in enumerate(files):
-            line = lines[at] if at < len(lines) else f"no line, and status {ran.returncode}"
+            line = lines[at].removeprefix(f"{files[name]}: ") if at < len(lines) else f"no line, and status {ran.returncode}"
             yield from _of_line(case, line, f"{replayer} on the recording with {name}")
 
 
 def _counts(witnesses: Witnesses, case: Case, texts: Mapping[str, bytes], path: Path) -> Iterator[Finding]:
-    """What is wrong with the counts of the recording with one checkpoint."""
+    """Yields what is wrong with the counts of the recording with one checkpoint."""
     states = read(texts[DENSE])
     apart = differences(witnesses.library, witnesses.counter, texts[ONE], path, case.few[0], states)
     yield from (Finding(count, part, shown_by) for count, part, shown_by in apart)
 
 
 def _of_line(case: Case, line: str, shown_by: str) -> Iterator[Finding]:
-    """What a line finds; a line that is neither accepted nor false is one of count 0."""
+    """Yields what a line finds; a line that is neither accepted nor false is one of count 0."""
     if false := FALSE_LINE.fullmatch(line):
         yield Finding(int(false[1]), false[2], shown_by)
     elif not re.fullmatch(rf"accepted \d+ checkpoints {case.counts} steps", line):
@@ -136,7 +136,7 @@ def _of_line(case: Case, line: str, shown_by: str) -> Iterator[Finding]:
 
 
 def _states_apart(dense: Recording, others: Mapping[str, Recording]) -> Iterator[Finding]:
-    """The first checkpoint of each recording that differs from the one at the same count of the dense recording."""
+    """Yields the first checkpoint of each recording that differs from the one at the same count of the dense recording."""
     reached, all_sent = {}, b""
     for checkpoint in dense.checkpoints:
         all_sent += checkpoint.output
@@ -155,7 +155,7 @@ def _states_apart(dense: Recording, others: Mapping[str, Recording]) -> Iterator
 
 
 def _first_difference(dense: Recording, wanted: Checkpoint, other: Recording, claimed: Checkpoint) -> str:
-    """The first part in which two checkpoints differ but for what was sent; empty if there is none."""
+    """Returns the first part in which two checkpoints differ but for what was sent; empty if there is none."""
     claimed_values = states.values(claimed)
     parts = [name for name, value in states.values(wanted).items() if claimed_values[name] != value]
     if not parts:
@@ -165,8 +165,8 @@ def _first_difference(dense: Recording, wanted: Checkpoint, other: Recording, cl
 
 
 def smallest_apart(witnesses: Witnesses, case: Case, found: Finding) -> Finding:
-    """A finding, or one of a smaller count: the first at which a run without checkpoints on the way is another. Of a run that is too long
-    to have a checkpoint at each count, the finding itself."""
+    """Returns a finding, or one of a smaller count: the first at which a run without checkpoints on the way is another. Of a run
+    that is too long to have a checkpoint at each count, the finding itself."""
     if found.count > MOST_CHECKPOINTS:
         return found
     dense = read(witnesses.record(case, range(1, found.count + 1)))
@@ -178,7 +178,7 @@ def smallest_apart(witnesses: Witnesses, case: Case, found: Finding) -> Finding:
 
 
 def altered(text: bytes, checkpoint: int, register: int) -> bytes:
-    """A recording with the lowest bit of a register turned at a checkpoint."""
+    """Returns a recording with the lowest bit of a register turned at a checkpoint."""
     recording = read(text)
     claimed = recording.checkpoints[checkpoint]
     registers = [value ^ (at == register) for at, value in enumerate(claimed.registers)]
@@ -187,7 +187,7 @@ def altered(text: bytes, checkpoint: int, register: int) -> bytes:
 
 
 def memory_of(words: Mapping[int, int] | Sequence[int]) -> bytes:
-    """A memory that begins with these words, or has them at these places."""
+    """Returns a memory that begins with these words, or has them at these places."""
     placed = words if isinstance(words, Mapping) else dict(enumerate(words))
     memory = bytearray(-(-4 * (max(placed) + 1) // PAGE_BYTES) * PAGE_BYTES)
     for at, word in placed.items():

@@ -54,7 +54,7 @@ CELLS = tuple(4 * at for at in (0, 1, 2, 3, 4, 5, 6, 7, 60, 255, 300))
 
 
 def case(seed: int) -> Case:
-    """The program of a seed, how many counts it runs for, and a few of these counts; the dense ones are close together."""
+    """Returns the program of a seed, how many counts it runs for, and a few of these counts; the dense ones are close together."""
     rng = Random(seed)
     counts = rng.choice(COUNTS) + rng.randrange(1000)
     few = sorted({*rng.sample(range(1, counts), rng.randint(2, 6)), counts})
@@ -91,7 +91,7 @@ class _Writer:
         )
 
     def session(self, counts: int) -> Session:
-        """A session without checkpoints."""
+        """Returns a session without checkpoints."""
         rng = self.rng
         self._add(U | imm(MOV, STACK, 0, 8), U | imm(MOV, DATA, 0, 1))
         begin, length = len(self.words), rng.choice(LENGTHS)
@@ -125,11 +125,11 @@ class _Writer:
         self.words += words
 
     def _number(self) -> int:
-        """A register that holds a number."""
+        """Returns a register that holds a number."""
         return self.rng.randrange(6)
 
     def _cell(self) -> int:
-        """A variable."""
+        """Returns a variable."""
         return self.rng.choice(CELLS)
 
     def _branch_to(self, word: int) -> None:

@@ -14,7 +14,7 @@ TYPED = ("tools", "tests", "bench", "docs")
 
 
 def sources(top: Path) -> Iterator[Path]:
-    """The Python files below a folder, but for what was built."""
+    """Yields the Python files below a folder, but for what was built."""
     for folder, names, files in os.walk(top):
         names[:] = [name for name in names if name not in NOT_SOURCES and not name.startswith(".")]
         paths = (Path(folder, name) for name in files)
@@ -22,7 +22,7 @@ def sources(top: Path) -> Iterator[Path]:
 
 
 def is_python(path: Path) -> bool:
-    """Whether a file is Python, by its suffix or, if it has none, by its first line."""
+    """Returns whether a file is Python, by its suffix or, if it has none, by its first line."""
     if path.suffix:
         return path.suffix == ".py"
     if not path.is_file():
@@ -47,7 +47,7 @@ class SourcesTest(ToolTest):
         self.assertEqual((len(ran.output.splitlines()), ran.status), (3, 1))
 
     def typed(self, paths: Iterable[Path], cache: Path) -> Ran:
-        """What mypy finds in these files. It takes a script, which has no suffix, for a module by a link that has one."""
+        """Returns what mypy finds in these files. It takes a script, which has no suffix, for a module by a link that has one."""
         links, modules = self.folder / "links", []
         links.mkdir()
         for path in paths:
@@ -75,7 +75,7 @@ class SourcesTest(ToolTest):
             self.assertEqual(long, [])
 
     def formatted(self, *paths: Path) -> Ran:
-        """What black would change in these files."""
+        """Returns what black would change in these files."""
         return run(["black", "--check", "--quiet", "--config", TOP / "pyproject.toml", *paths])
 
     def test_black_changes_nothing(self) -> None:

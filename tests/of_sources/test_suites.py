@@ -59,7 +59,7 @@ def test_processes(arguments: list[str], wanted: list[str]) -> None:
 
 
 def script(name: str) -> ModuleType:
-    """A script of tests/ as a module."""
+    """Returns a script of tests/ as a module."""
     spec = spec_from_loader(name, SourceFileLoader(name, str(TOP / "tests" / name)))
     assert spec and spec.loader
     module = module_from_spec(spec)
@@ -89,7 +89,8 @@ def test_all_tasks_of_the_page_belong_to_a_part() -> None:
 
 
 def alongside(folder: Path, lines: str) -> tuple[list[str], int]:
-    """What tests/alongside prints beside these lines of `rt ci`, over scripts that only print their names; and its status."""
+    """Returns what tests/alongside prints beside these lines of `rt ci`, over scripts that only print their names; and its
+    status."""
     for name in STUBS:
         path = folder / name
         path.parent.mkdir(exist_ok=True)

@@ -2,6 +2,7 @@
 pictures."""
 
 import base64
+import gzip
 import hashlib
 import json
 import os
@@ -31,11 +32,11 @@ FLAGS = (
 WIDTHS = (420, 800, 1100, 1280, 1920)
 
 # The numbers of keys that do something in a page.
-NUMBERS = {"Tab": 9, "Enter": 13, " ": 32, "ArrowUp": 38, "ArrowDown": 40}
+NUMBERS = {"Backspace": 8, "Tab": 9, "Enter": 13, " ": 32, "ArrowUp": 38, "ArrowDown": 40, "Delete": 46}
 
 # The script of the live page is one function, with no global names. The driver opens a copy of the page in which that function has one line
 # more, so that what is asked of the page is evaluated inside.
-SCRIPT = re.compile(r'(?<=<script id="g-script">).*?(?=</script>)', re.DOTALL)
+SCRIPT = re.compile(r'(?<=id="g-main">)[^<]*(?=</script>)')
 SCRIPT_END = re.compile(r"\}\)\(\);\s*$")
 INSIDE = "globalThis.inside = (text) => eval(text);\n"
 
@@ -97,7 +98,7 @@ class Pipe:
         return self._asked
 
     def receive(self) -> dict[str, Any]:
-        """The next thing that is told."""
+        """Returns the next thing that is told."""
         while b"\0" not in self._rest:
             if not select.select([self._from], [], [], self.limit)[0]:
                 raise RuntimeError(f"the browser says nothing for {self.limit} seconds")
@@ -115,18 +116,20 @@ class Pipe:
 
 
 def policy_of(script: str) -> str:
-    """The hash by which a policy lets a script run."""
+    """Returns the hash by which a policy lets a script run."""
     return f"sha256-{base64.b64encode(hashlib.sha256(script.encode()).digest()).decode()}"
 
 
 def opened_inside(text: str) -> str:
-    """A page whose script also evaluates what it is asked, or the page as it is if it is not the live page."""
+    """Returns a page whose script also evaluates what it is asked, or the page as it is if it is not the live page."""
     found = SCRIPT.search(text)
-    if not found or not SCRIPT_END.search(found[0]):
+    if not found:
         return text
-    script = SCRIPT_END.sub(lambda end: INSIDE + end[0], found[0])
+    own = gzip.decompress(base64.b64decode(found[0])).decode()
+    script = SCRIPT_END.sub(lambda end: INSIDE + end[0], own)
     # Without the quotation marks, which a report escapes.
-    return text.replace(found[0], script).replace(policy_of(found[0])[1:-1], policy_of(script)[1:-1])
+    changed = text.replace(found[0], base64.b64encode(gzip.compress(script.encode())).decode())
+    return changed.replace(policy_of(own)[1:-1], policy_of(script)[1:-1])
 
 
 class Page:
@@ -154,12 +157,11 @@ class Page:
             self._ask(f"{domain}.enable")
         self.url = path.resolve().as_uri()
         self._ask("Page.navigate", url=self.url)
-        while self._read().get("method") != "Page.loadEventFired":
-            pass
+        self._wait_for_load()
         pipe.pages.append(self)
 
     def answer(self, expression: str) -> Any:
-        """The value of an expression of JavaScript in the page; promises are waited for."""
+        """Returns the value of an expression of JavaScript in the page; promises are waited for."""
         if self._is_inside:
             expression = f"(globalThis.inside ?? eval)({json.dumps(expression)})"
         told = self._ask("Runtime.evaluate", expression=expression, awaitPromise=True, returnByValue=True)
@@ -176,13 +178,13 @@ class Page:
         self._ask("Emulation.setEmulatedMedia", features=[{"name": "prefers-color-scheme", "value": scheme}])
 
     def screenshot(self, width: int, height: int) -> bytes:
-        """A picture of the page in a window of this size, as PNG."""
+        """Returns a picture of the page in a window of this size, as PNG."""
         self.resize(width, height)
         self.answer("Promise.all([...document.images].map(it => it.decode()))")
         return base64.b64decode(self._ask("Page.captureScreenshot", format="png")["data"])
 
     def printed(self) -> bytes:
-        """The page as a printer would get it, as PDF."""
+        """Returns the page as a printer would get it, as PDF."""
         return base64.b64decode(self._ask("Page.printToPDF", printBackground=False)["data"])
 
     def leave(self, path: Path) -> None:
@@ -214,6 +216,14 @@ class Page:
         """Moves the mouse (`mouseMoved`), or presses or releases its left key (`mousePressed`, `mouseReleased`)."""
         button: dict[str, object] = {"button": "none"} if kind == "mouseMoved" else {"button": "left", "clickCount": 1}
         self._ask("Input.dispatchMouseEvent", type=kind, x=x, y=y, buttons=buttons, **button)
+
+    def point_with(self, kind: str, x: float, y: float, buttons: int, modifiers: int) -> None:
+        """Does as `point` does, with keys such as Shift held down."""
+        button: dict[str, object] = {
+            "button": "none" if kind == "mouseMoved" and not buttons else "left",
+            "clickCount": int(kind != "mouseMoved"),
+        }
+        self._ask("Input.dispatchMouseEvent", type=kind, x=x, y=y, buttons=buttons, modifiers=modifiers, **button)
 
     def turn_wheel(self, x: float, y: float, down: float, ctrl: bool = False) -> None:
         """Turns the wheel of the mouse over a place, with Ctrl held down or not."""
@@ -259,7 +269,7 @@ class Page:
         self._ask("Input.dispatchKeyEvent", type="keyUp", **common)
 
     def focused(self) -> tuple[str, str]:
-        """What has the focus: its role and its name, as the browser tells them to a screen reader."""
+        """Returns what has the focus: its role and its name, as the browser tells them to a screen reader."""
         held = self._ask("Runtime.evaluate", expression="document.activeElement")["result"]["objectId"]
         node = self._ask("Accessibility.getPartialAXTree", objectId=held, fetchRelatives=False)["nodes"][0]
         return node["role"]["value"], node.get("name", {}).get("value", "")
@@ -279,8 +289,8 @@ class Page:
         self._ask("Browser.setDownloadBehavior", behavior="allow", downloadPath=str(folder.resolve()), eventsEnabled=True)
 
     def has_saved(self, name: str) -> bool:
-        """Whether a file of this name is saved, and whole; it is said of each file once. The browser reserves a name with an empty file, so
-        that the name is there says nothing."""
+        """Returns whether a file of this name is saved, and whole; it is said of each file once. The browser reserves a name with
+        an empty file, so that the name is there says nothing."""
         self.answer("0")  # so that what the browser told meanwhile is read
         for download in self._pipe.whole & {it for it, other in self._pipe.begun.items() if other == name}:
             self._pipe.whole.remove(download)
@@ -290,8 +300,14 @@ class Page:
     def reload(self) -> None:
         """Loads the page anew."""
         self._ask("Page.reload")
+        self._wait_for_load()
+
+    def _wait_for_load(self) -> None:
+        """Waits until the page is loaded, and its own script unpacked."""
         while self._read().get("method") != "Page.loadEventFired":
             pass
+        if self._is_inside:
+            self.wait("globalThis.inside")
 
     def leave_for(self, url: str) -> None:
         """Goes to another page."""
@@ -303,11 +319,10 @@ class Page:
         """Goes back to the page before."""
         history = self._ask("Page.getNavigationHistory")
         self._ask("Page.navigateToHistoryEntry", entryId=history["entries"][history["currentIndex"] - 1]["id"])
-        while self._read().get("method") != "Page.loadEventFired":
-            pass
+        self._wait_for_load()
 
     def heap(self) -> float:
-        """The bytes of the page's own script that are in use, garbage left out."""
+        """Returns the bytes of the page's own script that are in use, garbage left out."""
         self._ask("HeapProfiler.collectGarbage")
         used: float = self._ask("Runtime.getHeapUsage")["usedSize"]
         return used

@@ -53,7 +53,7 @@ def tool(name: str, *words: object) -> Ran:
 
 
 def on_terminal(name: str, *words: object) -> bytes:
-    """What a tool prints on standard error where that is a terminal."""
+    """Returns what a tool prints on standard error where that is a terminal."""
     reader, terminal = pty.openpty()
     told = b""
     try:
@@ -69,7 +69,7 @@ def on_terminal(name: str, *words: object) -> bytes:
 
 
 def record(session: dict | bytes) -> bytes:
-    """The recording of a session."""
+    """Returns the recording of a session."""
     text = session if isinstance(session, bytes) else json.dumps(session).encode()
     ran = run([PROGRAM, "record"], text)
     assert ran.status == 0, ran.output
@@ -77,7 +77,7 @@ def record(session: dict | bytes) -> bytes:
 
 
 def session(words: Iterable[int], checkpoints: Iterable[int], inputs: Iterable[tuple] = ()) -> dict:
-    """A session that begins with these words at place 0."""
+    """Returns a session that begins with these words at place 0."""
     return {
         "format": "oberon-session",
         "version": 1,
@@ -89,28 +89,28 @@ def session(words: Iterable[int], checkpoints: Iterable[int], inputs: Iterable[t
 
 
 def claim(count: int, pages: Mapping[int, int] | None = None, **parts: Any) -> Checkpoint:
-    """A checkpoint with these parts, and with the first page of the pool at place 0 if no other pages are given."""
+    """Returns a checkpoint with these parts, and with the first page of the pool at place 0 if no other pages are given."""
     return Checkpoint(count, table=table_of({0: 1} if pages is None else pages), **parts)
 
 
 def encoded(version: int, pool: Iterable[bytes], checkpoints: Iterable[Checkpoint], events: Iterable[Event] = ()) -> bytes:
-    """A recording in a version; in version 1, rate and phase are left out."""
+    """Returns a recording in a version; in version 1, rate and phase are left out."""
     return write(Recording(version, b"".join(pool), list(events), list(checkpoints)))
 
 
 def rejoining(claimed: int) -> bytes:
-    """A recording that claims R5 in its first checkpoint, where the machine has 1, and is right in its second."""
+    """Returns a recording that claims R5 in its first checkpoint, where the machine has 1, and is right in its second."""
     first, second = (claim(count, registers=in_register(5, value)) for count, value in ((2, claimed), (4, 1)))
     return encoded(1, [page_of(0x45000001, 0xE7FFFFFE)], [claim(0), first, second])
 
 
 def status_of(text: bytes) -> int:
-    """The exit status of the program for a recording's text: 0, 1 or 2."""
+    """Returns the exit status of the program for a recording's text: 0, 1 or 2."""
     return run([PROGRAM], text).status
 
 
 def group(pattern: str, text: str) -> str:
-    """What the first group of a pattern has, which is somewhere in a text; a dot stands for line feeds, too."""
+    """Returns what the first group of a pattern has, which is somewhere in a text; a dot stands for line feeds, too."""
     found = re.search(pattern, text, re.DOTALL | re.MULTILINE)
     assert found, pattern
     return found[1]
@@ -122,7 +122,8 @@ def in_register(at: int, value: int) -> tuple[int, ...]:
 
 
 def calls_of(function: Callable[..., object], *arguments: object) -> int:
-    """How many functions, of Python and of C, a function calls: a measure of its work that does not depend on the machine."""
+    """Returns how many functions, of Python and of C, a function calls: a measure of its work that does not depend on the
+    machine."""
     number = 0
 
     def count(_frame: object, event: str, _argument: object) -> None:
@@ -146,7 +147,7 @@ class ToolTest(unittest.TestCase):
         self.folder = Path(folder.name)
 
     def file(self, name: str, content: bytes | str) -> Path:
-        """A file in the test's folder."""
+        """Returns a file in the test's folder."""
         path = self.folder / name
         path.parent.mkdir(parents=True, exist_ok=True)
         path.write_bytes(content if isinstance(content, bytes) else content.encode())

@@ -35,14 +35,14 @@ HEADS = [top << 16 for top in range(0, 1 << 16, 17)]
 
 
 def words_of_suite() -> Iterator[int]:
-    """The words of all pages of the suite's recordings."""
+    """Yields the words of all pages of the suite's recordings."""
     for path in sorted((EXAMPLES / "suite").rglob("*.orsr")):
         pool = bytes(recording.read(path.read_bytes()).pool)
         yield from struct.unpack(f"<{len(pool) // 4}I", pool)
 
 
 def words_in(source: str) -> list[int]:
-    """The words of a source without mistakes."""
+    """Returns the words of a source without mistakes."""
     it = assembled(source)
     assert not it.problems, it.problems
     return list(struct.unpack(f"<{len(it.memory) // 4}I", it.memory))
@@ -91,7 +91,7 @@ class NotationTest(ToolTest):
 
 class AssembleTest(ToolTest):
     def assemble(self, source: str, *words: object) -> Ran:
-        """What the tool answers to a source."""
+        """Returns what the tool answers to a source."""
         return tool("assemble", self.file("it.asm", source), *words)
 
     def assert_wrong(self, source: str, *told: str) -> None:
@@ -458,11 +458,11 @@ class PageTest(ToolTest):
         self.assertLessEqual(max(len(line) for line in page.splitlines() if not line.startswith("|")), 132)
 
     def program(self, number: int) -> str:
-        """The source of a program that the page has."""
+        """Returns the source of a program that the page has."""
         return (TOP / "docs/assembler.md").read_text().split("```text\n")[number].split("```")[0]
 
     def recorded(self, source: str) -> bytes:
-        """The recording of a source, which has no mistake."""
+        """Returns the recording of a source, which has no mistake."""
         ran = tool("assemble", self.file("it.asm", source))
         self.assertEqual((ran.errors, ran.status), ("", 0))
         return record(ran.output)

@@ -95,7 +95,7 @@ class BisectTest(ToolTest):
         (cls.built / "it.orsr").write_bytes(record(session_of))
 
     def bisect(self, built: int, *words: object, file: str = "it.json") -> Ran:
-        """What the tool says of the command with a mistake, or of the one without."""
+        """Returns what the tool says of the command with a mistake, or of the one without."""
         folder = self.built / f"{built}"
         command = [folder / "state", self.built / "it.orsr", "{count}", self.folder / f"{built}.bin"]
         return tool("bisect", self.built / file, *words, "--", *command)
@@ -129,6 +129,18 @@ class BisectTest(ToolTest):
         self.assertEqual(lines[2:5], ["             the other  the machine", "Mem[000800]  0000000F   0F000000", ""])
         self.assertEqual(lines[5:], [f"{FIRST + 8:>10}      11  B2000803  STB R2, R0, 2051        Mem[000800] 00000000 → 0F000000"])
 
+    def test_it_begins_where_the_two_are_said_to_be_the_same(self) -> None:
+        lines = self.bisect(5, "--from", FIRST).output.decode().splitlines()
+        self.assertEqual(
+            lines[0], f"differs after instruction {FIRST + 8}: the same at {FIRST + 8}, not at {FIRST + 9}, found by 10 runs"
+        )
+        told = f"the emulator and the machine differ at count {FIRST + 9}, in memory: give a smaller --from"
+        self.assert_refused(self.bisect(5, "--from", FIRST + 9), told)
+        self.assert_refused(self.bisect(5, "--from", 9, "--to", 9), "--from 9 is not before 9, the last count to try")
+        same = self.bisect(-1, "--from", FIRST).output.decode().splitlines()
+        self.assertEqual(same[0], f"the same at {FIRST + 100}, and at each of the 101 counts that were looked at")
+        self.assertEqual(same[1], "none of the 100 instructions is one of these:")
+
     def test_a_digest_serves_as_well_as_a_file(self) -> None:
         memory = self.folder / "memory.bin"
         script = self.file(
@@ -146,7 +158,7 @@ echo "${{shown%, \\"memory\\"*}}, \\"memory_sha256\\": \\"$digest\\"}}"
         self.assertIn("memory  SHA-256 ", ran.output.decode())
 
     def wrong_at(self, count: int) -> Path:
-        """A command that shows a wrong R5 at one count alone, of a program that sets it to 1."""
+        """Returns a command that shows a wrong R5 at one count alone, of a program that sets it to 1."""
         command = self.file(
             "other",
             f"#!/bin/sh\nr=1; [ $1 -eq 0 ] && r=0; [ $1 -eq {count} ] && r=9\n"

@@ -21,8 +21,8 @@ FRAMES = EXAMPLES / "frames/main.asm"
 
 
 def naive(it: Run, first: int, to: int) -> tuple[Counter[int], Counter[int], dict[int, set[int]]]:
-    """How often each word is executed, how often another than the next one comes after it, and what is executed there, by single
-    steps."""
+    """Returns how often each word is executed, how often another than the next one comes after it, and what is executed there, by
+    single steps."""
     visits, departures, words = Counter[int](), Counter[int](), dict[int, set[int]]()
     for step in it.steps(it.machine(first), to):
         if step.word is not None:
@@ -33,7 +33,7 @@ def naive(it: Run, first: int, to: int) -> tuple[Counter[int], Counter[int], dic
 
 
 def naive_branches(it: Run, first: int, to: int) -> list[Branch]:
-    """The conditional branches of words that are always the same, by single steps."""
+    """Returns the conditional branches of words that are always the same, by single steps."""
     taken, passed, words = Counter[int](), Counter[int](), dict[int, set[int]]()
     for step in it.steps(it.machine(first), to):
         if step.word is not None:

@@ -1,43 +1,38 @@
 """galluspa coverage, and examples/suite: it exercises everything, and wrong emulators fail it."""
 
 import subprocess
+from collections.abc import Iterator
+from concurrent.futures import ThreadPoolExecutor
+from typing import Any
 
-from galluspa.coverage import CELLS
+from galluspa import recording
+from galluspa.coverage import CELLS, Coverage
+from galluspa.interface import Machine
+from galluspa.limits import TimeIsUp
 from galluspa.recording import page_of
+from galluspa.steps import stretches_of
 from of_tools import browser
-from of_tools.samples import EXAMPLES, JUMP, STORED, TOP, ToolTest, claim, encoded, record, run, session, tool
+from of_tools.mistakes import ALL, RIGHT, Mistake
+from of_tools.samples import EXAMPLES, JUMP, STORED, TOP, ToolTest, claim, encoded, on_terminal, record, run, session, tool
 
 SUITE = EXAMPLES / "suite"
-# A mistake in reference/machine.h, and the recordings that show it.
-MISTAKES = (
-    ("x = b & ~c;", "x = b & c;", ["operations/ann"]),
-    ("case 4: is = m->c | m->z; break;", "case 4: is = m->c; break;", ["branches/bhi", "branches/bls"]),
-    (
-        "case 11:\n        if ((int32_t)c < 1)",
-        "case 11:\n        if (!c)",
-        ["stops/divisor-below-0", "stops/divisor-below-0-u", "stops/divisor-im-u-v", "stops/divisor-im-v"],
-    ),
-    (
-        "m->v = ((b ^ c) & (x ^ b)) >> 31;",
-        "m->v = ((b ^ c) & (x ^ c)) >> 31;",
-        ["operations/mov-h-and-flags", "operations/sub", "operations/sub-after-a-carry"],
-    ),
-    ("(m->r[a] & 255) << shift", "(m->r[a] & 255)", ["memory/stb"]),
-    ("case 5: return 1;", "case 5: return 0;", ["devices/disk"]),
-    ("if (m->waiting < KEYS) m->keys", "if (m->waiting < KEYS - 1) m->keys", ["devices/keys"]),
-    ("case 2: m->serial &= 255; return m->serial;", "case 2: return m->serial & 255;", ["devices/serial", "devices/status"]),
-    ("step(m); if (!m->stop) tick(m);", "step(m); tick(m);", ["stops/inputs"]),
-    (
-        "{ m->pc = next; return; }",
-        "{ m->pc = next; if (w >> 28 & 1) put(m, 15, 4 * next); return; }",
-        [f"branches/b{name}" for name in "cc cs eq ge gt hi le ls lt mi ne no pl vc vs".split()],
-    ),
-)
+# Mistakes, and recordings that show them.
+SHOWN_BY = {
+    "ANN": "operations/ann",
+    "LS without Z": "branches/bls",
+    "divisors below 0": "stops/divisor-below-0",
+    "the lane of a byte loaded": "memory/bases",
+    "the carry after ADD'": "operations/add-after-a-carry",
+    "offsets of 19 bits": "memory/offsets",
+    "stores to code": "programs/own-code",
+    "a queue of fifteen": "devices/keys",
+    "a millisecond for a stop": "stops/inputs",
+}
 
 
 class CoverageTest(ToolTest):
     def coverage(self, text: bytes, *words: object) -> list[str]:
-        """What is told of a suite of one recording."""
+        """Returns what is told of a suite of one recording."""
         self.file("suite/it.orsr", text)
         ran = tool("coverage", self.folder / "suite", *words)
         self.assertEqual((ran.status, ran.errors), (0, ""))
@@ -62,13 +57,42 @@ class CoverageTest(ToolTest):
         lines = self.coverage(record(session([JUMP], [9000])), "--steps", 9000)
         self.assertEqual(lines[0], "1 recordings, 9,000 instructions")
 
+    def test_stretches_without_a_gap_are_one(self) -> None:
+        """A recording with a checkpoint after each instruction would else cost some calls of the library for each."""
+        read = recording.read(record(session([JUMP], [1, 2, 3, 1000, 5000])))
+        self.assertEqual(stretches_of(read, 10_000), [range(5000)])
+        self.assertEqual(stretches_of(read, 500), [range(103), range(1000, 1100)])
+        self.assertEqual(stretches_of(read, 2), [range(2)])
+
+    def test_says_how_far_it_came(self) -> None:
+        self.file("suite/it.orsr", record(session([JUMP], [9000])))
+        told = on_terminal("coverage", self.folder / "suite", "--steps", 9000)
+        self.assertIn(b"it.orsr: 4,000 instructions", told)
+        self.assertIn(b"it.orsr: 8,000 instructions", told)
+
+        def until_the_time_is_over() -> Iterator[Any]:
+            yield from list(Machine.claim(record(session([JUMP], [3]))).steps(3))
+            raise TimeIsUp("no answer in 1 s")
+
+        with self.assertRaisesRegex(TimeIsUp, "^no answer in 1 s, after 3 instructions$"):
+            Coverage().add("it", until_the_time_is_over())
+
     def test_what_stands_still_is_no_instruction(self) -> None:
         lines = self.coverage(record(session([0x000C0000], [100])))
         self.assertEqual(lines[0], "1 recordings, 1 instructions")
 
-    def test_a_recording_that_no_session_begins_is_named(self) -> None:
-        lines = self.coverage(encoded(2, [page_of(JUMP)], [claim(0, leds=1)]))
-        self.assertEqual(lines[1], "not looked at: it.orsr: its initial state has LEDs other than 0, which a session cannot say")
+    def test_any_initial_state_is_looked_at(self) -> None:
+        """Also one that no session can say: a byte of the serial line that was read already, and LEDs."""
+        lines = self.coverage(encoded(2, [page_of(JUMP)], [claim(0, leds=1, serial=0x42), claim(3, leds=1, serial=0x42)]))
+        self.assertEqual(lines[:2], ["1 recordings, 3 instructions", "operations              0 of  128"])
+
+    def test_inputs_of_a_machine_that_has_stopped_are_seen(self) -> None:
+        inputs = [(3, "key", 65), (3, "key", 66), (60, "mouse", 5)]
+        lines = [line.split() for line in self.coverage(record(session([0x000C0000], [50, 100], inputs)), "--tables")]
+        self.assertIn(["key", "0", "2"], lines)
+        self.assertIn(["mouse", "0", "1"], lines)
+
+    def test_a_recording_that_is_refused_is_named(self) -> None:
         lines = self.coverage(STORED[:-1])
         self.assertEqual(lines[1], "not looked at: it.orsr: refused 1 short at byte 9503")
 
@@ -80,7 +104,7 @@ class CoverageTest(ToolTest):
     def test_the_page(self) -> None:
         self.file("suite/it.orsr", STORED)
         every = len(CELLS)
-        for suite, seen in ((SUITE, every), (self.folder / "suite", 3)):
+        for suite, seen in ((SUITE, every), (self.folder / "suite", 5)):
             ran = tool("coverage", suite, "--page", self.folder / "page.html")
             self.assertEqual((ran.status, ran.errors), (0, ""))
             with browser.browser() as running, running.page(self.folder / "page.html") as opened:
@@ -110,22 +134,24 @@ class OwnSuiteTest(ToolTest):
         self.assertEqual([str(name) for name in made if made[name] != kept[name]], [])
         self.assertLess(sum(len(content) for content in kept.values()), 2_000_000)
 
-    def false_ones(self, old: str, new: str) -> list[str]:
-        """The recordings that an emulator in C doesn't replay as they say, once something in it is another."""
-        machine = (TOP / "reference/machine.h").read_text()
-        self.assertIn(old, machine)
-        self.file("c/machine.h", machine.replace(old, new, 1))
-        for path in (TOP / "reference/recording.h", TOP / "reference/replay.h", TOP / "bench/replay.c"):
-            self.file(f"c/{path.name}", path.read_bytes())
-        replay = self.folder / "c/replay"
-        subprocess.run(["cc", "-O1", "-w", "-o", replay, self.folder / "c/replay.c"], check=True)
+    def false_ones(self, mistake: Mistake) -> list[str]:
+        """Returns the recordings that the machine in C with a mistake does not replay as they say."""
+        folder = self.folder / mistake.name.replace(" ", "-")
+        mistake.write(folder)
+        replay = folder / "replay"
+        subprocess.run(["cc", "-O1", "-w", f"-I{folder}", "-o", replay, TOP / "bench/replay.c"], check=True)
         paths = sorted(SUITE.rglob("*.orsr"))
         lines = run([replay, *paths]).output.decode().splitlines()
-        self.assertEqual(len(lines), len(paths))
+        named = [line.partition(": ") for line in lines]
+        self.assertEqual([name for name, _, _ in named], [str(path) for path in paths], mistake.name)
         names = [str(path.relative_to(SUITE).with_suffix("")) for path in paths]
-        return sorted(name for name, line in zip(names, lines) if not line.startswith("accepted "))
+        return [name for name, (_, _, line) in zip(names, named) if not line.startswith("accepted ")]
 
     def test_an_emulator_in_c_passes_it_and_one_with_a_mistake_does_not(self) -> None:
-        self.assertEqual(self.false_ones("", ""), [])
-        for old, new, names in MISTAKES:
-            self.assertEqual(self.false_ones(old, new), names, new)
+        with ThreadPoolExecutor(4) as pool:
+            right, *wrong = pool.map(self.false_ones, (RIGHT, *ALL))
+        self.assertEqual(right, [])
+        self.assertEqual([it.name for it, names in zip(ALL, wrong, strict=True) if not names], [])
+        shown = {it.name: names for it, names in zip(ALL, wrong, strict=True)}
+        for name, shown_by in SHOWN_BY.items():
+            self.assertIn(shown_by, shown[name], name)

@@ -167,7 +167,7 @@ class TimelineTest(ToolTest):
 
 
 def depths(steps: list[Step]) -> Iterator[int]:
-    """How many calls have not returned, before each step and after the last."""
+    """Yields how many calls have not returned, before each step and after the last."""
     backs: list[int] = []
     for step in steps:
         yield len(backs)
@@ -195,7 +195,7 @@ class CommandsTest(ToolTest):
         return ran
 
     def printed(self, *commands: str) -> list[list[str]]:
-        """The lines that each command printed."""
+        """Returns the lines that each command printed."""
         found: list[list[str]] = []
         for line in self.ran(*commands).output.decode().splitlines():
             if any(line == f"({line[1:].partition(')')[0]}) {it}" for it in commands):
@@ -587,7 +587,7 @@ class Talk:
         return self.until(wanted)
 
     def until(self, wanted: str) -> str:
-        """What is printed up to a text; of a prompt, one at the beginning of a line."""
+        """Returns what is printed up to a text; of a prompt, one at the beginning of a line."""
         end = time.monotonic() + self._seconds
         mark = wanted.encode()
         while True:
@@ -609,7 +609,7 @@ class Talk:
                 self._read += part
 
     def status(self) -> int:
-        """The exit status."""
+        """Returns the exit status."""
         return self._process.wait(self._seconds)
 
     def end(self) -> None:

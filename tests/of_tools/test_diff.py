@@ -12,11 +12,11 @@ WORDS = page_of(0x45000001, 0xE7FFFFFE)
 
 class DiffTest(ToolTest):
     def diff(self, one: bytes, other: bytes) -> Ran:
-        """What the tool says of two recordings."""
+        """Returns what the tool says of two recordings."""
         return tool("diff", self.file("a.orsr", one), self.file("b.orsr", other))
 
     def rows(self, one: bytes, other: bytes) -> list[list[str]]:
-        """The rows that it prints of two that differ, each as its cells."""
+        """Returns the rows that it prints of two that differ, each as its cells."""
         ran = self.diff(one, other)
         self.assertEqual((ran.errors, ran.status), ("", 1))
         head, *rows = ran.output.decode().splitlines()

@@ -13,7 +13,7 @@ WORDS = page_of(0x45000001, 0xE7FFFFFE)
 
 class OnlyTest(ToolTest):
     def found(self, one: bytes, other: bytes, only: str = ",".join(PARTS), is_all: bool = True) -> list[str]:
-        """The names of what differs."""
+        """Returns the names of what differs."""
         return [it.row[0].strip() for it in found_of(recording.read(one), recording.read(other), set(only.split(",")), is_all)]
 
     def test_each_group_has_its_parts(self) -> None:

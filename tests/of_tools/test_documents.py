@@ -43,13 +43,13 @@ class Command:
     output: str
 
     def prints(self, printed: str) -> bool:
-        """Whether what was printed is what is shown."""
+        """Returns whether what was printed is what is shown."""
         shown = re.escape(self.output).replace(re.escape("\n..\n"), r"\n(?:.*\n)*")
         return re.fullmatch(shown, "\n" + printed) is not None
 
 
 def commands_of(document: str) -> Iterator[Command]:
-    """The commands that a document shows, in their order."""
+    """Yields the commands that a document shows, in their order."""
     for indent, block in CONSOLE.findall(document):
         for part in re.split(r"^\$ ", re.sub(f"^{indent}", "", block, flags=re.MULTILINE), flags=re.MULTILINE)[1:]:
             line, _, output = part.partition("\n")

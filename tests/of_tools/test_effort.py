@@ -29,7 +29,7 @@ class Tokens(list[Token]):
 
 
 def read_tokens(labels: int) -> int:
-    """How many tokens are read to take a line of so many labels apart; one that is read twice counts twice."""
+    """Returns how many tokens are read to take a line of so many labels apart; one that is read twice counts twice."""
     Tokens.read = 0
     with mock.patch.object(statements, "tokens_of", lambda line: Tokens(tokens_of(line))):
         statement = statement_of(1, " ".join(f"l{at}:" for at in range(labels)))
@@ -38,7 +38,7 @@ def read_tokens(labels: int) -> int:
 
 
 def undefined(number: int) -> str:
-    """A source with so many labels and so many names that are not defined."""
+    """Returns a source with so many labels and so many names that are not defined."""
     return "\n".join(f"label{at}: word other{at}" for at in range(number))
 
 

@@ -6,6 +6,7 @@ import tempfile
 from pathlib import Path
 
 from galluspa import recording
+from galluspa.trials import Trial
 from of_tools.samples import EXAMPLES, PROGRAM, TOP, Ran, ToolTest, group, run, tool
 
 NAMES = ("emulator", "emulator-recorded")
@@ -14,7 +15,7 @@ STEPS = 416666
 
 
 def compiled(folder: Path, name: str) -> Path:
-    """An emulator, compiled without a warning."""
+    """Returns an emulator, compiled without a warning."""
     program = folder / name
     library = [LIBRARY] if "recorded" in name else []
     flags = ["-O2", "-Wall", "-Wextra", "-Werror", "-Wno-unused-function", "-Wno-unused-result"]
@@ -36,13 +37,13 @@ class EmulatorTest(ToolTest):
         cls.plain, cls.recorded = (compiled(folder, name) for name in NAMES)
 
     def image(self, source: str) -> Path:
-        """The memory image of a source."""
+        """Returns the memory image of a source."""
         image = self.folder / "it.bin"
         self.assertEqual(tool("assemble", self.file("it.asm", source), "--image", image).status, 0)
         return image
 
     def record(self, image: Path, frames: int, keys: bytes = b"") -> tuple[Ran, recording.Recording]:
-        """What the emulator with the recorder shows in so many frames, and its recording, which is accepted."""
+        """Returns what the emulator with the recorder shows in so many frames, and its recording, which is accepted."""
         made = self.folder / "it.orsr"
         ran = run([self.recorded, image, frames, made], keys)
         self.assertTrue(run([PROGRAM], made.read_bytes()).output.startswith(b"accepted "))
@@ -69,6 +70,15 @@ class EmulatorTest(ToolTest):
         times = [it.value for it in read.events if it.kind == 1]
         self.assertEqual((len(times), times), (125, sorted(times)))
         self.assertLess(1900, times[-1])
+
+    def test_the_one_that_is_tested_shows_the_same_and_answers_sessions(self) -> None:
+        tested = compiled(self.folder, "emulator-tested")
+        image, keys = self.image((EXAMPLES / "keys.asm").read_text()), b"Hi, you!"
+        self.assertEqual(run([tested, image, 20], keys).output, keys)
+        self.assertEqual(run([tested]), Ran(b"", "", 0))
+        self.assertEqual(run([tested], bytes(144) + b"\1"), Ran(bytes(12 + 16 * 4 + 64), "", 0))
+        cut_off = Trial((0,) * 16, {0: bytes(1024)}, 1).request(5)[:-1]
+        self.assertEqual(run([tested], cut_off), Ran(b"", "the session ends early\n", 3))
 
     def test_a_machine_that_stops_is_recorded_up_to_there(self) -> None:
         for source, stop in (

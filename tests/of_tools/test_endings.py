@@ -68,14 +68,15 @@ def program(rng: Random) -> list[int]:
 
 
 def session(rng: Random) -> Session:
-    """A random program, some of them with a timer that counts, and some with inputs."""
+    """Returns a random program, some of them with a timer that counts, and some with inputs."""
     at = sorted(rng.randrange(MOST + 20) for _ in range(rng.choice((0, 0, 1, 3))))
     inputs = [Event(count, KIND_NUMBERS["switches"], rng.randrange(4)) for count in at]
     return Session(rate=rng.choice((0, 0, 1, 5, 100)), memory=memory_of(program(rng)), inputs=inputs)
 
 
 def states_of(run: Recording) -> list[int]:
-    """A number for the state at each checkpoint, but for its count and for a timer that counts: the same for the same states."""
+    """Returns a number for the state at each checkpoint, but for its count and for a timer that counts: the same for the same
+    states."""
     numbers: dict[tuple, int] = {}
     memories: dict[bytes, tuple] = {}
 
@@ -104,14 +105,14 @@ def states_of(run: Recording) -> list[int]:
 
 
 def loads_timer(run: Recording, it: Checkpoint) -> bool:
-    """Whether the next instruction loads the timer, and this counts."""
+    """Returns whether the next instruction loads the timer, and this counts."""
     word = run.word(it, it.pc) if it.pc < WORDS and it.rate else 0
     place = address(word, it.registers)
     return place is not None and not is_store(word) and place & ~3 == (DEVICES + TIMER) & 0xFFFFFF
 
 
 def by_force(made: Session) -> int | None:
-    """The first count after all inputs, up to MOST, from which on the machine comes back to the same state after so many
+    """Returns the first count after all inputs, up to MOST, from which on the machine comes back to the same state after so many
     instructions or fewer, none of which loads a timer that counts: each state is compared with those after it."""
     counts = range(1, MOST + LONGEST + 1)
     run = read(record(replace(made, checkpoints=list(counts)).text().encode()))
@@ -121,14 +122,14 @@ def by_force(made: Session) -> int | None:
 
 
 def comes_back(states: Sequence[int], loads: Sequence[bool], at: int) -> bool:
-    """Whether the state at a count is that of a later one."""
+    """Returns whether the state at a count is that of a later one."""
     again = next((later for later in range(at + 1, at + LONGEST + 1) if states[later] == states[at]), None)
     return again is not None and not any(loads[at:again])
 
 
 class LoopsTest(unittest.TestCase):
     def found(self, made: Session) -> int | None:
-        """What `until loops` finds."""
+        """Returns what `until loops` finds."""
         return endings.Run(Library.find(None), Program.find(None), made).loop(MOST)
 
     def test_a_loop_is_found_at_its_first_count(self) -> None:

@@ -9,8 +9,6 @@ from galluspa.assembler import ADD, ALWAYS, MOV, MUL, NE, SUB, V, XOR, branch, i
 from galluspa.command import Refused
 from galluspa.coverage import INSTRUCTIONS, Coverage, Row
 from galluspa.library import WORDS, Library
-from galluspa.program import Program
-from galluspa.recording import Recording
 from galluspa.sessions import Session
 from galluspa.steps import steps_of
 from galluspa.tracing import Run
@@ -25,17 +23,16 @@ DOWN = (imm(MOV, 1, 0, 0xFFFF), imm(SUB, 1, 1, 1), branch(NE, -2))
 ONCE = (*DOWN, imm(MUL, 2, 2, 3), *DOWN, branch(ALWAYS, -4))
 
 
-def run_of(session: Session, counts: int) -> tuple[Run, Recording]:
-    """The run of a session up to a count, and its recording."""
+def run_of(session: Session, counts: int) -> Run:
+    """Returns the run of a session up to a count."""
     text = record(replace(session, checkpoints=[counts]).text().encode())
-    read = recording.read(text)
-    return Run(Library.find(None), text, read, range(1)), read
+    return Run(Library.find(None), text, recording.read(text), range(1))
 
 
-def rows_by_force(read: Recording, counts: int) -> set[Row]:
-    """The rows that the single instructions of a run are in."""
+def rows_by_force(run: Run, counts: int) -> set[Row]:
+    """Returns the rows that the single instructions of a run are in."""
     seen = Coverage()
-    seen.add("it", steps_of(Program.find(None), "it", read, list(range(counts))))
+    seen.add("it", steps_of(run, [range(counts)]))
     return {(table, row) for (table, row, _) in seen.times if table in INSTRUCTIONS}
 
 
@@ -43,7 +40,7 @@ class BindingTest(unittest.TestCase):
     """The calls of the library that count and trace, as the tools call them."""
 
     def setUp(self) -> None:
-        self.down, _ = run_of(Session(memory=memory_of(DOWN)), 100)
+        self.down = run_of(Session(memory=memory_of(DOWN)), 100)
         self.start, self.library = self.down.machine(0), self.down.library
 
     def test_a_profile_has_each_word(self) -> None:
@@ -78,10 +75,10 @@ class ExecutedTest(unittest.TestCase):
         for seed in range(PROGRAMS):
             for case in (randomly.case(seed), waiting.case(seed)):
                 counts = min(case.counts, MOST)
-                run, read = run_of(case.session, counts)
+                run = run_of(case.session, counts)
                 found = executed.executed(run, counts)
                 self.assertEqual(found.looked_at, counts, case.name)
-                self.assertEqual(found.rows, rows_by_force(read, counts), case.name)
+                self.assertEqual(found.rows, rows_by_force(run, counts), case.name)
 
     def test_an_instruction_that_is_changed_back_is_seen(self) -> None:
         """A word is ADD at each other turn, and XOR at the others; and both when the run begins and when it ends it is ADD."""
@@ -99,13 +96,13 @@ class ExecutedTest(unittest.TestCase):
         # The bits in which the two differ are above the low half of a word, so the byte that has them is turned.
         words = (load(1, 0, 4 * turned + 2) | V, imm(XOR, 1, 1, flip >> 16), store(1, 0, 4 * turned + 2) | V, *words[3:])
         for counts in (7, 12, 600):
-            run, read = run_of(Session(memory=memory_of(words)), counts)
-            self.assertEqual(executed.executed(run, counts).rows, rows_by_force(read, counts), counts)
+            run = run_of(Session(memory=memory_of(words)), counts)
+            self.assertEqual(executed.executed(run, counts).rows, rows_by_force(run, counts), counts)
         self.assertLessEqual({("operations", "ADD"), ("operations", "XOR")}, executed.executed(run, counts).rows)
 
     def test_a_long_run_is_looked_at_wholly_or_as_long_as_there_is_time(self) -> None:
         """The one multiplication of a hundred million instructions is found, also in more parts than there are tries."""
-        run, _ = run_of(Session(memory=memory_of(ONCE)), 1_000_000)
+        run = run_of(Session(memory=memory_of(ONCE)), 1_000_000)
         for counts, most in ((100_000_000, executed.MOST_STEPS), (200_000, 1000)):
             with mock.patch.multiple(executed, MOST_STEPS=most, TRIES=50):
                 found = executed.executed(run, counts)
@@ -115,7 +112,7 @@ class ExecutedTest(unittest.TestCase):
 
     def test_a_program_that_always_changes_itself_is_looked_at_as_long_as_is_said(self) -> None:
         words = (imm(ADD, 1, 1, 16), store(1, 5, 12), branch(ALWAYS, 0), 0, branch(ALWAYS, -5))
-        run, _ = run_of(Session(memory=memory_of(words)), 100_000)
+        run = run_of(Session(memory=memory_of(words)), 100_000)
         with mock.patch.object(executed, "TRIES", 50):
             found = executed.executed(run, 100_000)
         self.assertTrue(0 < found.looked_at < 1000, found.looked_at)

@@ -13,7 +13,7 @@ from typing import Any
 from PIL import Image
 
 from galluspa import recording
-from galluspa.explanation import FalseClaim, explain_false, plain
+from galluspa.explanation import FINDS_IT, FalseClaim, explain_false, plain
 from galluspa.faults import explain_fault
 from galluspa.library import Library
 from galluspa.limits import Limit, TimeIsUp
@@ -62,13 +62,18 @@ class Ending(Limit):
 
 class ExplainTest(ToolTest):
     def explained(self, text: bytes, *words: object) -> list[str]:
-        """The lines that explain a text; the tool ends as the program does."""
+        """Returns the lines that explain a text, but for those that say how to find the instruction; the tool ends as the program
+        does."""
         ran = tool("explain", self.file("it.orsr", text), *words)
         self.assertEqual((ran.errors, ran.status), ("", status_of(text)))
-        return ran.output.decode().splitlines()
+        lines = ran.output.decode().splitlines()
+        if ran.status != 1:
+            return lines
+        self.assertEqual((lines[-4], lines[-2]), ("", FINDS_IT))
+        return lines[:-4]
 
     def claiming(self, text: bytes, at: int, *claims: str) -> bytes:
-        """A recording with claims changed."""
+        """Returns a recording with claims changed."""
         for claim in claims:
             text = tool("claim", self.file("it.orsr", text), "--at", at, "--set", claim).output
         return text
@@ -97,6 +102,21 @@ class ExplainTest(ToolTest):
                 "",
                 "R0 had the claimed value at 41 of the counts 0 to 143: last at 41, 2 before.",
             ],
+        )
+
+    def test_the_stretch_and_the_command_that_finds_the_instruction_are_told(self) -> None:
+        """The command is copied, with an emulator that gets R0 wrong from the sixth of the program's seven additions on."""
+        text = self.claiming(record(session((*[0x40080001] * 7, JUMP), [4, 9])), 2, "R0=8")
+        path = self.file("it's.orsr", text)
+        *_, told, finds, command = tool("explain", path).output.decode().splitlines()
+        self.assertEqual((told, finds), ("Yours went wrong between 4 and 9: checkpoint 1 is true.", FINDS_IT))
+        wrong = self.file(
+            "wrong", '#!/bin/sh\necho "{\\"R\\": [$(($1 < 6 ? $1 : $1 < 7 ? 7 : 8)), 0,0,0,0,0,0,0,0,0,0,0,0,0,0,0]}"\n'
+        )
+        wrong.chmod(0o755)
+        ran = run(["sh", "-c", command.replace("COMMAND", str(wrong)).replace("galluspa", str(GALLUSPA), 1)])
+        self.assertEqual(
+            ran.output.decode().splitlines()[0], "differs after instruction 5: the same at 5, not at 6, found by 3 runs"
         )
 
     def test_twenty_thousand_instructions_take_seconds(self) -> None:
@@ -204,27 +224,27 @@ class ExplainTest(ToolTest):
         self.assertTrue(self.explained(text, "--steps", 1)[-1].startswith(told))
 
     def test_what_there_is_no_time_for_is_told(self) -> None:
-        text = self.claiming(record(session(WORDS, [43, 60])), 1, "R0=5")
+        """The instructions are had in batches, of 1,024 and then of 2,048; before the third there is no more time."""
+        text = self.claiming(record(session(WORDS, [5000, 6000])), 1, "R0=5")
         read, program = recording.read(text), Program.find(None)
         answer = program.check(text)
 
         false = answer.false_claim or self.fail("it is not false")
 
         def explained(slices: int) -> FalseClaim:
-            """What is explained in the time for so many slices of the machine's run."""
+            """Returns what is explained in the time for so many slices of the machine's run."""
             run = Run.of_answer(replace(Library.find(None), limit=Ending(slices)), text, read, answer)
-            return explain_false(run, program, read, false, 1000)
+            return explain_false(run, program, read, false, 5000)
 
-        lines = list(plain(explained(30)))
+        lines = list(plain(explained(3), "it.orsr"))
         self.assertIn("R0  00000005  00000006", lines)
-        self.assertIn("The last instructions before count 29 that wrote R0:", lines)
-        self.assertTrue(
-            lines[-1].endswith(
-                " of the counts 0 to 29: last at 29, 14 before. There was no answer: not all was looked at " "(--limit)."
-            ),
+        self.assertIn("The last instructions before count 3072 that wrote R0:", lines)
+        self.assertIn(
+            "R0 had the claimed value at 41 of the counts 0 to 3072: last at 41, 4,959 before. "
+            "There was no answer: not all was looked at (--limit).",
             lines,
         )
-        self.assertNotIn("(--limit)", "\n".join(plain(explained(1000))))
+        self.assertNotIn("(--limit)", "\n".join(plain(explained(1000), "it.orsr")))
         with self.assertRaisesRegex(TimeIsUp, "no answer: the machine came to count 0"):
             explained(0)
 
@@ -304,7 +324,7 @@ WHOLE = session([JUMP], [5, 9], [(1, "key", 65), (3, "mouse", 7)])
 
 
 def changed(*path: str | int, to: object) -> bytes:
-    """A session with one of its values changed."""
+    """Returns a session with one of its values changed."""
     made = json.loads(json.dumps(WHOLE))
     inner = made
     for step in path[:-1]:

@@ -17,7 +17,7 @@ NOISE = (0x6D00000E, 0x4DD67F00, 0x42006000, 0x40080001, 0xA0D00000, 0x4DD80004,
 
 class FilmTest(ToolTest):
     def frames(self, film: bytes) -> list[tuple[bytes, float]]:
-        """The frames of a film as Pillow shows them, and the milliseconds of each."""
+        """Returns the frames of a film as Pillow shows them, and the milliseconds of each."""
         picture, found = Image.open(io.BytesIO(film)), []
         for number in range(getattr(picture, "n_frames", 1)):
             picture.seek(number)
@@ -25,7 +25,7 @@ class FilmTest(ToolTest):
         return found
 
     def screen(self, path: Path, at: int) -> bytes:
-        """The screen that the program draws of a checkpoint, as Pillow has it."""
+        """Returns the screen that the program draws of a checkpoint, as Pillow has it."""
         return Image.open(io.BytesIO(run([PROGRAM, "screen", "--at", at], path.read_bytes()).output)).tobytes()
 
     def test_helps(self) -> None:

@@ -9,14 +9,18 @@ from collections.abc import Callable, Sequence
 from dataclasses import replace
 from unittest import mock
 
-from galluspa import finding, recording
-from galluspa.command import Refused
+from galluspa import finding, recording, scanning
+from galluspa.batches import STOP, RawStep
+from galluspa.command import Failed, Refused
 from galluspa.conditions import BECOMES, COUNTER, SENDS, TAKES, WRITTEN, conditions_of
 from galluspa.finding import KEPT, Search
 from galluspa.instructions import address, is_store
 from galluspa.library import Library
 from galluspa.limits import TimeIsUp
+from galluspa.scanning import Sought
+from galluspa.traceformats import TextLines
 from galluspa.tracing import Run, Step
+from of_programs import randomly, waiting
 from of_tools.samples import (
     EXAMPLES,
     GALLUSPA,
@@ -125,6 +129,10 @@ MEANINGS: tuple[tuple[str, Callable[[Step], bool]], ...] = (
 )
 
 
+# Several conditions, of which the first one that holds is named.
+SEVERAL = ("R3=0 store 0-0x7FFFF", "input key load 0-0xFFFFF stop", "LEDs=1 store page 0 switches=9 input", "PC=5 PC=0-6 sent")
+
+
 class ConditionsTest(ToolTest):
     """Each condition holds where its meaning does, of instructions that are had one by one."""
 
@@ -134,9 +142,10 @@ class ConditionsTest(ToolTest):
         steps, held = list(run.steps(run.machine(first), number)), set()
         for written, holds in MEANINGS:
             counts = [step.before.count for step in steps if holds(step)]
-            for jobs in (1, 3):
-                search = Search(run, conditions_of(written.split()), first, number, jobs)
-                self.assertEqual([hit.count for hit in search.all(KEPT)], counts, written)
+            for jobs, dense_steps in ((1, -1), (1, number), (3, number)):
+                with mock.patch.object(finding, "DENSE_STEPS", dense_steps):
+                    search = Search(run, conditions_of(written.split()), first, number, jobs)
+                    self.assertEqual([hit.count for hit in search.all(KEPT)], counts, written)
             with mock.patch.multiple(finding, LAST_STEPS=3, GROWTH=2):
                 ends = [hit.count if hit else None for hit in (search.first(), search.last())]
             self.assertEqual(ends, [counts[0], counts[-1]] if counts else [None, None], written)
@@ -237,6 +246,86 @@ class ConditionsTest(ToolTest):
         for words in (["sent"] * 65, ["input"] * 13):
             with self.assertRaisesRegex(Refused, "more than 64 conditions"):
                 conditions_of(words)
+
+
+class ScanTest(ToolTest):
+    """Where hits are dense a scan finds them. They are those that the library's search finds, which is one call for each."""
+
+    def hits(self, run: Run, words: str, end: int, is_dense: bool, **sizes: int) -> list[tuple[RawStep, str]]:
+        """The hits of a search that goes on by scans from its first hit on, or never does."""
+        steps = {"DENSE_STEPS": 1 << 70 if is_dense else -1, "FIRST_SCANNED": 16, "MOST_SCANNED": 64, "FIRST_STEPS": 100}
+        with mock.patch.dict(vars(finding), steps | sizes), mock.patch.object(scanning, "scan", wraps=scanning.scan) as scan:
+            found = Search(run, conditions_of(words.split()), 0, end).all(end)
+            hits = [(hit.raw, hit.condition.text) for hit in found]
+        self.assertEqual(scan.called, is_dense and len(hits) > 0 and hits[0][0].at < end - 1 and not hits[0][0].after[STOP], words)
+        return hits
+
+    def assert_same(self, text: bytes, end: int, *conditions: str, **sizes: int) -> set[str]:
+        """Compares the hits of both ways, and gives the conditions that hold at some count."""
+        run, held = run_of(text), set()
+        for words in conditions or (*(words for words, _ in MEANINGS), *SEVERAL):
+            searched = self.hits(run, words, end, False, **sizes)
+            self.assertEqual(self.hits(run, words, end, True, **sizes), searched, words)
+            held |= {words} if len(searched) > 1 else set()
+        return held
+
+    def test_each_condition_holds_where_the_library_says(self) -> None:
+        """In random programs and in some that mostly wait, with inputs, stops, a timer that counts, and code that writes itself."""
+        held = set()
+        for case in (randomly.case(1), waiting.case(2)):
+            end = min(case.counts, 200)
+            held |= self.assert_same(record(replace(case.session, checkpoints=[end]).text().encode()), end)
+        held |= self.assert_same(record(session(SENDING, [9, 40])), 40)
+        self.assertGreater(len(held), 10)
+
+    def test_borders_of_slices_and_of_scans_are_no_borders_of_hits(self) -> None:
+        text = record(session(COUNTING, [50, 51, 150, 160], [(at, "key", 65) for at in (16, 17, 31, 32, 33, 99, 100, 101)]))
+        for sizes in ({"FIRST_SCANNED": 1, "MOST_SCANNED": 1}, {"FIRST_SCANNED": 3, "FIRST_STEPS": 7}, {"MOST_SCANNED": 17}):
+            self.assert_same(text, 160, "PC=1", "store 400", "input", "change 400 R0=9", "load 0-99 store 400", **sizes)
+
+    def test_code_that_writes_itself(self) -> None:
+        """R1 := 80H; an instruction before or after the store becomes a store, a load or a move, in turn."""
+        for place in (4, 24):
+            loop = (0x41000080, 0x60006000, 0x4006C141, 0x41190004, 0x82100000, 0xA2000000 + place, 0x40000000, 0x40000005)
+            again = (0xE7FFFFFA,)
+            words = [*loop, *again, *[0] * (32 - len(loop) - len(again)), *[0x40000001, 0xA0000190, 0x80000008, 0xA0000194] * 9]
+            self.assert_same(
+                record(session(words, [200])), 200, "store 400", "load 8", "change 0-99", "R0=5", "store page 0", "PC=6"
+            )
+
+    def test_hits_that_get_sparse_are_searched_again(self) -> None:
+        run = run_of(record(session(SENDING, [1 << 20])))
+        with mock.patch.object(scanning, "scan", wraps=scanning.scan) as scan:
+            self.assertEqual(len(list(Search(run, conditions_of(["PC=3"]), 0, 1 << 20).all(99))), 10)
+        self.assertLess(scan.call_count, 4)
+
+    def test_a_scan_that_is_not_the_librarys_search_is_a_failure(self) -> None:
+        run = run_of(record(session(COUNTING, [100])))
+        wrong: dict[str, Callable] = {"index": lambda _, step: 0 if step.at < 97 else None, "may_concern": lambda *_: False}
+        for name, function in wrong.items():
+            with mock.patch.object(Sought, name, function), self.assertRaisesRegex(Failed, "are not those of the library: please"):
+                list(Search(run, conditions_of(["store", "400"]), 0, 100).all(99))
+
+    def test_what_is_printed_is_what_a_trace_shows(self) -> None:
+        """As text and as JSON, by segments side by side and one at a time."""
+        made = self.file("it.orsr", record(session(COUNTING, [900, 1000, 3000], [(at, "key", 65) for at in range(5, 3000, 100)])))
+        sym = self.file("names.sym", "0 t Start\n4 t Store\n190 d Number\n")
+        choices: Sequence[Sequence[object]] = ([], ["--symbols", sym])
+        for jobs in (1, 3):
+            for options in choices:
+                objects = tool("trace", made, "--to", 3000, "--json", *options).output.splitlines()
+                found = tool("find", made, "--all", "PC=1", "--json", "-j", jobs, *options).output.splitlines()
+                expected = [{**it, "condition": "PC=1"} for it in map(json.loads, objects) if it["PC"] == 1]
+                self.assertEqual([json.loads(line) for line in found], expected)
+            lines = tool("trace", made, "--to", 3000).output.splitlines()
+            shown = tool("find", made, "--all", "PC=0-2", "--most", 3000, "-j", jobs).output.splitlines()
+            self.assertEqual(shown, lines)
+
+    def test_hits_that_are_dense_take_microseconds(self) -> None:
+        run, lines = run_of(record(session(COUNTING, [200_000]))), TextLines().lines
+        with self.takes_at_most(3):
+            hits = Search(run, conditions_of(["PC=1"]), 0, 200_000).all(50_000)
+            self.assertEqual(sum(len(lines(hit.raw)) > 0 for hit in hits), 50_000)
 
 
 class FindTest(ToolTest):

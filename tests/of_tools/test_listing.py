@@ -13,7 +13,7 @@ JUMPED = re.compile(r"(?:on to|back to) (\d+)")
 
 
 def tables() -> Iterator[tuple[str, list[int], list[str], str]]:
-    """Each row of the examples' tables: the session, the numbers of the words, the words, and what they do."""
+    """Yields each row of the examples' tables: the session, the numbers of the words, the words, and what they do."""
     parts = SECTION.split((EXAMPLES / "README.md").read_text())
     for name, text in zip(parts[1::2], parts[2::2], strict=True):
         for numbers, words, meaning in ROW.findall(text):

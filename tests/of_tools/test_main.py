@@ -5,13 +5,15 @@ import os
 import pty
 import subprocess
 import sys
+from pathlib import Path
 
 from galluspa.commands import commands
+from of_tools import browser
 from of_tools.samples import EXAMPLES, GALLUSPA, PROGRAM, STORED, TOOLS, ToolTest, galluspa, rejoining, run, session, tool
 
 FACE = EXAMPLES / "face.orsr"
 # The subcommands that came when there was the command already.
-LATER = {"check", "record", "screen", "migrate", "live", "state", "debug", "symbols", "executed", "profile"}
+LATER = set("check record screen migrate live state debug symbols executed profile rerun fuzz shrink compare-trace".split())
 
 
 class MainTest(ToolTest):
@@ -130,6 +132,24 @@ class MainTest(ToolTest):
         self.assertEqual((ran.output.decode(), ran.status), (f"{page}\nopened {page.as_uri()}\n", 0))
         ran = run([GALLUSPA, "live"], env={**os.environ, "BROWSER": "/bin/none"})
         self.assertIn(str(page), ran.output.decode())
+
+    def test_opens_the_live_page_with_a_file(self) -> None:
+        page_file = self.folder / "keys.html"
+        environment = {**os.environ, "BROWSER": "echo opened %s", "TMPDIR": str(self.folder)}
+        for words in ((EXAMPLES / "keys.json", "-o", page_file), (FACE,)):
+            ran = run([GALLUSPA, "live", *words], env=environment)
+            made = Path(ran.output.decode().splitlines()[0])
+            self.assertEqual((ran.output.decode(), ran.status), (f"{made}\nopened {made.as_uri()}\n", 0))
+        self.assertEqual((made.name, made.parent.parent), ("face.html", self.folder))
+        with browser.browser() as running, running.page(page_file) as page:
+            page.wait("document.getElementById('g-name').innerText === 'keys'")
+            self.assertEqual(page.errors, [])
+            self.assertEqual(page.answer("document.getElementById('line').innerText"), "accepted 3 checkpoints 100 steps")
+            page.answer("document.getElementById('g-run').click()")
+            page.wait("document.getElementById('g-count').innerText.startsWith('100')")
+        self.assert_refused(tool("live", self.file("bad.json", "{}")), "neither a recording nor a session: session refused 2 shape")
+        self.assert_refused(tool("live", self.file("bad.orsr", FACE.read_bytes()[:99])), "refused 1 short")
+        self.assert_refused(tool("live", "-o", page_file), "use -o with FILE")
 
     def test_refuses_bad_input(self) -> None:
         self.assert_refused(galluspa("none"), "galluspa: none: neither a file nor a command (see galluspa --help)")

@@ -65,7 +65,7 @@ class Loader:
 
 
 def loaded() -> Loader:
-    """A memory with some modules."""
+    """Returns a memory with some modules."""
     loader = Loader()
     for name, commands in MODULES:
         loader.load(name, commands)

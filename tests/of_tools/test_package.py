@@ -19,7 +19,7 @@ IMAGE = re.compile(r'(?:src|srcset)="([^":]+)"')
 
 
 def is_built() -> bool:
-    """Whether the library is there."""
+    """Returns whether the library is there."""
     try:
         return library_folder(None).is_dir()
     except Refused:
@@ -71,14 +71,14 @@ class PackageTest(ToolTest):
         return run(["dpkg", f"--root={self.folder}/root", "--force-depends", *words], env=environment)
 
     def clean_root(self) -> set[str]:
-        """A root without any package, and the files in it."""
+        """Returns a root without any package, and the files in it."""
         for folder in ("info", "updates", "triggers"):
             (self.folder / "root/var/lib/dpkg" / folder).mkdir(parents=True)
         self.file("root/var/lib/dpkg/status", "")
         return self.files()
 
     def files(self) -> set[str]:
-        """The files and folders in the root, but for those by which dpkg keeps its books."""
+        """Returns the files and folders in the root, but for those by which dpkg keeps its books."""
         root = self.folder / "root"
         return {str(it.relative_to(root)) for it in root.rglob("*") if "var" not in it.relative_to(root).parts}
 
@@ -89,6 +89,7 @@ class PackageTest(ToolTest):
         self.assertIn("usr/bin/galluspa-suite", self.files())
         self.assert_works(self.folder / "root/usr")
         self.assert_opens(self.folder / "root/usr")
+        self.assert_found(self.folder / "root/usr")
         ran = self.dpkg("-P", "galluspa")
         self.assertEqual(ran.status, 0, ran.errors)
         self.assertEqual(self.files(), before)
@@ -97,6 +98,7 @@ class PackageTest(ToolTest):
         subprocess.run(["tar", "-xzf", self.tarball, "-C", self.folder], check=True)
         self.assert_works(self.folder / "galluspa-1.2.3")
         self.assert_linked(self.folder / "galluspa-1.2.3")
+        self.assert_found(self.folder / "galluspa-1.2.3")
         self.assert_named(self.folder / "galluspa-1.2.3")
         for name in ("README.md", "share/doc/galluspa/README.md"):
             self.assertIn("galluspa live", (self.folder / "galluspa-1.2.3" / name).read_text())
@@ -139,6 +141,24 @@ class PackageTest(ToolTest):
         self.assertEqual(self.completed(prefix, "oberon_replay", "suite", "--ju"), [])
         self.assertFalse(list(prefix.rglob("__pycache__")))
 
+    def assert_found(self, prefix: Path) -> None:
+        """pkg-config finds the library, a program that is linked with it runs, and Python imports the package."""
+        environment = {**os.environ, "PKG_CONFIG_PATH": str(next(prefix.rglob("galluspa.pc")).parent)}
+        ran = run(["pkg-config", "--cflags", "--libs", "galluspa"], env=environment)
+        self.assertEqual((ran.errors, ran.status), ("", 0))
+        self.assertEqual(run(["pkg-config", "--modversion", "galluspa"], env=environment).output, b"1.2.3\n")
+        library = next(prefix.rglob("libgalluspa.so.0")).parent
+        self.assertEqual((library / "libgalluspa.so").readlink(), Path("libgalluspa.so.0"))
+        program, source = self.folder / "linked", prefix / "share/galluspa/examples/c/check.c"
+        self.assertEqual(run(["cc", source, "-o", program, *ran.output.decode().split()]).errors, "")
+        self.assertIn(b"(NEEDED)             Shared library: [libgalluspa.so.0]", run(["readelf", "--dynamic", program]).output)
+        ran = run([program, EXAMPLES / "face.orsr"], env={**os.environ, "LD_LIBRARY_PATH": str(library)})
+        self.assertIn(b"accepted 4 checkpoints", ran.output)
+        script = f"import galluspa; print(galluspa.check(open({str(EXAMPLES / 'face.orsr')!r}, 'rb').read()).line)"
+        packages = {"PYTHONPATH": str(prefix / "lib/python3/dist-packages"), "PYTHONDONTWRITEBYTECODE": "1"}
+        ran = run(["/usr/bin/python3", "-c", script], cwd=self.folder, env={**os.environ, **packages})
+        self.assertEqual((ran.output, ran.errors), (b"accepted 4 checkpoints 20000000 steps\n", ""))
+
     def assert_named(self, prefix: Path) -> None:
         """Each subcommand names itself as it is typed, also by its earlier name, and those of a clone are not there."""
         names = sorted(path.name for path in (prefix / "bin").iterdir())
@@ -177,7 +197,7 @@ class PackageTest(ToolTest):
                 self.assertTrue((document.parent / link).exists(), f"{document}: {link}")
 
     def completed(self, prefix: Path, *words: str) -> list[str]:
-        """What bash offers after these words, of which the last is not yet whole."""
+        """Returns what bash offers after these words, of which the last is not yet whole."""
         typed = f"COMP_WORDS=({' '.join(words)}); COMP_CWORD={len(words) - 1}"
         script = f'source {prefix}/share/bash-completion/completions/{words[0]}; {typed}; _galluspa; echo "${{COMPREPLY[@]}}"'
         return run(["bash", "-c", script]).output.decode().split()

@@ -32,13 +32,13 @@ QUIET: dict[str, Any] = {"stdout": subprocess.DEVNULL, "stderr": subprocess.DEVN
 
 
 def recipe(name: str) -> str:
-    """A recipe of the document."""
+    """Returns a recipe of the document."""
     text = (TOP / "docs/suites.md").read_text()
     return group(rf"^<!-- recipe {name} -->\n```\w+\n(.*?)^```$", text)
 
 
 def free_port() -> int:
-    """A port of 127.0.0.1 that nothing listens on."""
+    """Returns a port of 127.0.0.1 that nothing listens on."""
     with socket.socket() as probe:
         probe.bind(("127.0.0.1", 0))
         return probe.getsockname()[1]
@@ -80,7 +80,7 @@ class RecipesTest(ToolTest):
         self.addCleanup(server.terminate)
 
     def environment(self) -> dict[str, str]:
-        """Where the program, the servers' words and no bytecode are found."""
+        """Returns where the program, the servers' words and no bytecode are found."""
         return {
             **os.environ,
             "PATH": f"{self.folder}/bin:{TOP}:{FOUND}",
@@ -199,7 +199,7 @@ class SlurmTest(RecipesTest):
         self.long_recording()
 
     def lines(self) -> list[str]:
-        """What the tasks of the array printed."""
+        """Returns what the tasks of the array printed."""
         return [path.read_text() for path in sorted((self.folder / "lines").iterdir())]
 
     def long_recording(self) -> None:

@@ -69,7 +69,7 @@ GOLDEN = {
 
 
 def at_rate_0(checkpoint: Checkpoint) -> Checkpoint:
-    """What version 1 keeps of a checkpoint."""
+    """Returns what version 1 keeps of a checkpoint."""
     return replace(checkpoint, rate=0, phase=0)
 
 

@@ -12,11 +12,11 @@ class RecordingOfTest(ToolTest):
         self.assert_helps("recording-of")
 
     def report(self, text: bytes, *words: str) -> Path:
-        """The page of a text."""
+        """Returns the page of a text."""
         return self.file("report.html", tool("report", self.file("it.orsr", text), *words).output)
 
     def page(self, *packed: bytes) -> Path:
-        """A page that holds these as recordings."""
+        """Returns a page that holds these as recordings."""
         held = (b'<script type="text/plain" id="g-recording">' + base64.b64encode(it) + b"</script>" for it in packed)
         return self.file("page.html", b"<h1>accepted 9 checkpoints 9 steps</h1>" + b"".join(held))
 

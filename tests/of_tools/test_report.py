@@ -63,7 +63,7 @@ DOTS = """
 
 class ReportTest(ToolTest):
     def report(self, text: bytes, name: str = "it.orsr", *words: str) -> Path:
-        """The page of a text."""
+        """Returns the page of a text."""
         ran = tool("report", self.file(name, text), *words)
         self.assertEqual((ran.status, ran.errors), (status_of(text), ""))
         return self.file("page.html", ran.output)
@@ -290,6 +290,16 @@ class ReportInBrowserTest(ReportTest):
                     self.assertLessEqual(shown, width)
                 self.assertEqual(page.errors, [])
                 self.assertTrue(all(url.startswith(("file:", "data:", "blob:")) for url in page.requests), page.requests)
+
+    def test_a_live_report_has_the_names_of_its_symbol_file(self) -> None:
+        symbols = self.file("<b>.sym", "00000000 t Face.Draw\tFace.Mod:7\n")
+        ran = tool("report", EXAMPLES / "face.orsr", "--live", "--symbols", symbols)
+        self.assertEqual((ran.status, ran.errors), (0, f"galluspa report: 1 name from {symbols}\n"))
+        with self.running.page(self.file("page.html", ran.output)) as page:
+            page.answer("document.querySelector('#check-again').click()")
+            page.wait("names.symbols.size && document.querySelector('#again.same')")
+            self.assertEqual(page.answer("[namesText(), whereText(8)]"), ["1 name from <b>.sym", "Face.Draw + 0x8"])
+            self.assertEqual(page.errors, [])
 
     def test_a_live_report_runs_on_from_a_checkpoint(self) -> None:
         with self.running.page(self.report((EXAMPLES / "face.orsr").read_bytes(), "face.orsr", "--live")) as page:

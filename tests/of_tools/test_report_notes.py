@@ -59,6 +59,10 @@ class NotesTest(ToolTest):
         page = self.page("--live", "--note", self.note)
         self.assertIn('<h1 id="title" class="note">The clock stops</h1>', page)
         self.assertIn('id="check-again"', page)
+        face = EXAMPLES / "face.orsr"
+        ends = [self.page(*words, "--at", 4_000_000, path=face) for words in (("--live",), ())]
+        live, plain = (group(r'<section id="at">(.*?)</section>', it) for it in ends)
+        self.assertEqual(live, plain)
 
     def test_the_machine_at_a_count(self) -> None:
         face = EXAMPLES / "face.orsr"

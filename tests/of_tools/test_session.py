@@ -12,7 +12,7 @@ PROGRAM_WORDS = (0x5100FFC8, 0x90200000, 0xA0100000, JUMP)
 
 class SessionTest(ToolTest):
     def image(self) -> object:
-        """A memory image with a program at its start and a byte at 1024."""
+        """Returns a memory image with a program at its start and a byte at 1024."""
         return self.file("memory.bin", page_of(*PROGRAM_WORDS) + b"A")
 
     def test_helps(self) -> None:

@@ -11,14 +11,14 @@ FACE = EXAMPLES / "face.orsr"
 
 class SlicesTest(ToolTest):
     def stretch(self, whole: Path, first: int, last: int) -> Path:
-        """The file of a stretch, with its line beside it."""
+        """Returns the file of a stretch, with its line beside it."""
         cut = tool("slice", whole, "--from", first, "--to", last)
         self.assertEqual((cut.status, cut.errors), (0, ""))
         self.file(f"{first}-{last}.line", run([PROGRAM], cut.output).output)
         return self.file(f"{first}-{last}.orsr", cut.output)
 
     def join(self, whole: Path, *ends: int) -> Ran:
-        """What comes of a recording whose stretches are those between these checkpoints."""
+        """Returns what comes of a recording whose stretches are those between these checkpoints."""
         return tool("join", whole, *(self.stretch(whole, first, last) for first, last in pairwise(ends)))
 
 

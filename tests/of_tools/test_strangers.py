@@ -40,13 +40,13 @@ IN_TAP = r"\\xff\\nok 2 - b \# SKIP \\x1b[2J\\.orsr"
 
 
 def raw(text: bytes) -> bytes:
-    """What of a text a terminal would not only show."""
+    """Returns what of a text a terminal would not only show."""
     return bytes(byte for byte in text if byte < 32 and byte != 10 or byte == 127 or byte >= 0xF8)
 
 
 class OutputTest(ToolTest):
     def commands(self) -> list[list[object]]:
-        """A command of each tool that does without the library; each prints something."""
+        """Returns a command of each tool that does without the library; each prints something."""
         live = self.file("live.html", tool("report", "--live", FACE).output)
         piece = self.file("0-4.orsr", FACE.read_bytes())
         self.file("0-4.line", run([PROGRAM], FACE.read_bytes()).output)
@@ -74,7 +74,7 @@ class OutputTest(ToolTest):
         ]
 
     def ended(self, words: Sequence[object], output: Any, **options: Any) -> Ran:
-        """A tool with this standard output."""
+        """Returns a tool with this standard output."""
         command = [str(GALLUSPA), *map(str, words)]
         ran = subprocess.run(command, stdout=output, stderr=subprocess.PIPE, check=False, **options)
         return Ran(b"", ran.stderr.decode(), ran.returncode)
@@ -291,13 +291,13 @@ class SessionCostTest(ToolTest):
     START = b'{"format":"oberon-session","version":1,"start":{"R":[%s],"H":0,"PC":0,"flags":0},"pages":[],' % b",".join([b"0"] * 16)
 
     def longest(self, first: bytes, item: bytes, last: bytes) -> bytes:
-        """The longest session with as many of an item as fit."""
+        """Returns the longest session with as many of an item as fit."""
         begin = self.START + first
         times = (self.LONGEST - len(begin) - len(item) - len(last)) // (len(item) + 1)
         return begin + (item + b",") * times + item + last
 
     def refused(self, text: bytes) -> tuple[str, float]:
-        """What the program says of a session, in that memory, and how long it takes."""
+        """Returns what the program says of a session, in that memory, and how long it takes."""
         limit = self.MEMORY * self.LONGEST
         before = resource.getrusage(resource.RUSAGE_CHILDREN)
         ran = run([PROGRAM, "record"], text, preexec_fn=lambda: resource.setrlimit(resource.RLIMIT_AS, (limit, limit)))
@@ -324,7 +324,7 @@ class SessionCostTest(ToolTest):
 
 class TimeTest(ToolTest):
     def slow(self, seconds: float = 60) -> Path:
-        """A program that answers late where it checks; the process by which it waits has a number in a file."""
+        """Returns a program that answers late where it checks; the process by which it waits has a number in a file."""
         script = self.file(
             "slow",
             f"#!/bin/sh\n[ $1 = check ] && {{ sleep {seconds} & echo $! >> {self.folder}/pids; wait; }}\n" f'exec {PROGRAM} "$@"\n',
@@ -362,7 +362,7 @@ class TimeTest(ToolTest):
         self.assertEqual((ran.output, ran.errors, ran.status), (b"", "galluspa explain: no answer in 1 s\n", 3))
         self.file("suite/a.orsr", STORED)
         self.file("suite/b.orsr", record(session([JUMP], [1000])))
-        waiting = self.file("waiting", f'#!/bin/sh\n[ $1 = record ] && sleep 2\nexec {PROGRAM} "$@"\n')
+        waiting = self.file("waiting", f'#!/bin/sh\n[ $1 = screen ] && sleep 2\nexec {PROGRAM} "$@"\n')
         waiting.chmod(0o755)
         ran = tool("coverage", self.folder / "suite", "--limit", 1, "--program", waiting)
         self.assertEqual((ran.status, ran.errors), (0, ""))

@@ -96,13 +96,13 @@ class SuiteTest(SuitesTest):
 
 class EarlierRunTest(SuitesTest):
     def since(self, before: str) -> list[str]:
-        """What is told of a suite since an earlier run."""
+        """Returns what is told of a suite since an earlier run."""
         ran = tool("suite", self.folder, "--changed-since", self.file("before.json", before))
         self.assertEqual(ran.errors, "")
         return [line for line in ran.output.decode().splitlines() if re.match(r"# [a-z]", line)]
 
     def kept(self) -> dict:
-        """A run of the suite, as it is kept."""
+        """Returns a run of the suite, as it is kept."""
         self.suite()
         self.assertEqual(tool("suite", self.folder, "--keep", self.folder / "kept.json").status, 0)
         return json.loads((self.folder / "kept.json").read_text())

@@ -70,7 +70,7 @@ MISTAKES = (
 
 
 def called(text: str, *addresses: int) -> list[str]:
-    """What addresses are called by a symbol file."""
+    """Returns what addresses are called by a symbol file."""
     names = parsed(text.encode())
     return [names.text(it) for it in addresses]
 
@@ -248,7 +248,7 @@ class ShownTest(ToolTest):
         self.symbols = self.file("it.sym", NAMES)
 
     def printed(self, name: str, *arguments: object) -> list[str]:
-        """The lines of a tool that says where its names are from."""
+        """Returns the lines of a tool that says where its names are from."""
         ran = tool(name, self.recording, *arguments)
         self.assertEqual((ran.status, ran.errors), (0, f"galluspa {name}: 4 names from {self.symbols}\n"))
         return ran.output.decode().splitlines()
@@ -377,7 +377,7 @@ class ShownTest(ToolTest):
         ran = tool("report", false)
         self.assertEqual((ran.status, ran.errors), (1, f"galluspa report: 1 name from {self.symbols}\n"))
         page = ran.output.decode()
-        self.assertIn("is from the symbol file <code>it.sym</code>: names are claims", page)
+        self.assertIn("Names of addresses are from <code>it.sym</code>: they are claims", page)
         self.assertRegex(page, r"The next instruction: <code>3  E7FFFFFF  B -1 .*  ; &lt;b&gt;Main\\x1b\[2J</code>")
         self.assertNotIn("<b>Main", page)
         self.assertNotIn("\x1b", page)
@@ -581,5 +581,5 @@ class DocumentTest(ToolTest):
 
 
 def shortened(name: str) -> str:
-    """The name of a file as the tools show it."""
+    """Returns the name of a file as the tools show it."""
     return name if len(name) <= symbols.SHOWN else f"..{name[-symbols.SHOWN:]}"

@@ -3,14 +3,18 @@
 import json
 import random
 import time
+from collections.abc import Iterator
 from dataclasses import replace
 from typing import cast
+from unittest import mock
 
-from galluspa import recording
-from galluspa.library import MOST_STEPS, SENT_KEPT, Library, Sent
+from galluspa import batches, devices, recording
+from galluspa.command import Failed
+from galluspa.library import MOST_STEPS, SENT_KEPT, WORDS, Library, Machine, Sent
 from galluspa.limits import Limit, TimeIsUp
 from galluspa.recording import Event, page_of
-from galluspa.tracing import FIRST_ONES, Run, Step
+from galluspa.tracing import Run, Step, differing
+from of_programs import randomly, waiting
 from of_tools.samples import EXAMPLES, JUMP, STORED, ToolTest, claim, encoded, on_terminal, record, rejoining, session, tool
 
 # R1 := FF0000H and R1 := 65280 - 1 down to 0 in a loop of two, then a division by 0, which stops.
@@ -21,26 +25,37 @@ SENDING = (0x5100FFC8, 0x4200000A, 0x42290001, 0xE93FFFFE, 0x40000041, 0xA010000
 
 
 def run_of(text: bytes) -> Run:
-    """The run of a true recording."""
+    """Returns the run of a true recording."""
     read = recording.read(text)
     return Run(Library.find(None), text, read, range(len(read.checkpoints)))
 
 
 def plain(step: Step) -> Step:
-    """An instruction without what tells how it was had: where its states were read, and their tables."""
+    """Returns an instruction without what tells how it was had: where its states were read, and their tables."""
     before, after = (replace(it, start=0, table=None) for it in (step.before, step.after))
     return replace(step, before=before, after=after, changed=tuple(step.changed), inputs=tuple(step.inputs))
 
 
 def steps_of(text: bytes, number: int) -> list[Step]:
-    """The first instructions of a true recording."""
+    """Returns the first instructions of a true recording."""
     run = run_of(text)
     return list(run.steps(run.machine(0), number))
 
 
+def one_by_one(run: Run, machine: Machine, to: int) -> Iterator[Step]:
+    """Yields the instructions from a machine's count up to another, by a call of the library that advances the machine for each."""
+    before = machine.seen()
+    while before.count < to and not before.stop:
+        word, memory = machine.words[before.pc] if before.pc < WORDS else None, machine.memory()
+        sent = run.advance(machine, before.count + 1).first
+        after = machine.seen(sent)
+        yield Step(before, after, run.inputs.of(before.count, after.count), word, tuple(differing(memory, machine.memory())))
+        before = after
+
+
 class TraceTest(ToolTest):
     def lines(self, text: bytes, *words: object) -> list[str]:
-        """The lines that the tool prints of a recording."""
+        """Returns the lines that the tool prints of a recording."""
         ran = tool("trace", self.file("it.orsr", text), *words)
         self.assertEqual((ran.errors, ran.status), ("", 0))
         return ran.output.decode().splitlines()
@@ -215,7 +230,7 @@ class AtOnceTest(ToolTest):
         run = run_of(text)
         run.true = range(1)
         one, other = run.machine(0), run.machine(0)
-        slow, fast = list(run._one_by_one(one, number)), list(run.steps(other, number))
+        slow, fast = list(one_by_one(run, one, number)), list(run.steps(other, number))
         self.assertEqual([plain(step) for step in fast], [plain(step) for step in slow])
         self.assertEqual((bytes(other.state), other.memory()), (bytes(one.state), one.memory()))
         return fast
@@ -249,7 +264,7 @@ class AtOnceTest(ToolTest):
             jump = (0x5F00FFFF, 0x4FF10010, 0xC700000F)
             for program in (words, words[:-1] + jump):
                 steps = self.assert_alike(record(session(program, [9])), 5000)
-                self.assertGreater(len(steps), FIRST_ONES)
+                self.assertGreater(len(steps), 64)
                 self.assertEqual([step.after.stop != 0 for step in steps], [False] * (len(steps) - 1) + [True])
 
     def test_they_are_of_random_programs(self) -> None:
@@ -273,10 +288,32 @@ class AtOnceTest(ToolTest):
                 ),
                 900,
             )
-            self.assertGreater(len(steps), FIRST_ONES)
+            self.assertGreater(len(steps), 64)
+
+    def test_they_are_of_programs_that_change_themselves_and_of_some_that_wait(self) -> None:
+        for seed in range(12):
+            for case in (randomly.case(seed), waiting.case(seed)):
+                self.assert_alike(record(case.session.text().encode()), min(case.counts, 600))
+
+    def test_each_batch_is_compared_with_the_machine(self) -> None:
+        """If a load left its key waiting, or a store did nothing to the LEDs, the trace says so and is no answer."""
+        words = (0x5100FFDC, 0x80100000, 0xA01FFFE8, JUMP)
+        run = run_of(record(session(words, [4], [(0, "key", 65)])))
+        self.assertEqual([step.after.leds for step in run.steps(run.machine(0), 4)], [0, 0, 65, 65])
+        for method in ("after_load", "after_store"):
+            with mock.patch.object(devices.Devices, method, lambda self, *_: self), self.assertRaisesRegex(Failed, "at count 4"):
+                list(run.steps(run.machine(0), 4))
+
+    def test_the_machine_is_at_the_last_that_was_taken(self) -> None:
+        run = run_of(record(session(COUNTING, [3_000_000])))
+        machine = run.machine(0)
+        for number, _ in enumerate(run.steps(machine, 3_000_000)):
+            if number == 5000:
+                break
+        self.assertEqual((machine.count, machine.state.r[1]), (5001, 0xF0000 - 2500))
 
     def word(self, source: random.Random) -> int:
-        """An operation, or a load or a store near the address in R15, which nothing writes."""
+        """Returns an operation, or a load or a store near the address in R15, which nothing writes."""
         word = source.choice((0, 0x40000000, 0x80000000, 0xA0000000)) | source.getrandbits(28) & 0xF7F70FFF
         return word | 0xF00000 if word >> 31 else word
 
@@ -288,7 +325,7 @@ class AtOnceTest(ToolTest):
             for step in run.steps(machine, 1 << 30):
                 last = [step]
         self.assertEqual((machine.count, machine.state.r[0]), (last[0].after.count, last[0].after.registers[0]))
-        self.assertGreater(machine.count, FIRST_ONES)
+        self.assertGreater(machine.count, batches.FIRST_BATCH)
 
     def test_a_search_goes_faster(self) -> None:
         counting = self.file("it.orsr", record(session((0x40080001, 0xE7FFFFFE), [100_000])))
@@ -315,7 +352,7 @@ class LongRunTest(ToolTest):
     """Runs of a machine that sends at each second instruction, and of one that has stopped."""
 
     def sending(self) -> Run:
-        """A run that sends without end."""
+        """Returns a run that sends without end."""
         return run_of(record(session((0x5100FFC8, 0xA0100000, 0xE7FFFFFE), [1])))
 
     def test_what_is_kept_of_what_is_sent_is_bounded(self) -> None:

@@ -38,7 +38,7 @@ class WheelTest(ToolTest):
         assert ran.status == 0, ran.errors
 
     def used(self, *words: object) -> Ran:
-        """The installed command, in a folder where nothing else is."""
+        """Returns the installed command, in a folder where nothing else is."""
         return run([self.folder_of_all / "venv/bin/galluspa", *words], cwd=self.folder)
 
     def test_it_has_what_the_command_needs_and_nothing_of_a_clone(self) -> None:

@@ -31,7 +31,7 @@ def _is_there(sign: str | Path) -> bool:
 
 
 def is_value(before: str) -> bool:
-    """Whether an argument is the value of the option before it."""
+    """Returns whether an argument is the value of the option before it."""
     return before in WITH_VALUE
 
 
