@@ -33,12 +33,8 @@ static int differs(const Machine *m, const Recording *r, uint32_t k) {
 
 /* Gives a machine the state of the checkpoint that was read last. */
 static void begin(const Recording *r, Machine *m) {
-    const uint32_t *p = r->now.parts;
     if (!(m->memory = calloc(WORDS, 4))) die("no memory");
-    memcpy(m->r, p, sizeof m->r);
-    m->h = p[16]; m->pc = p[17]; m->n = p[18] >> 3; m->z = p[18] >> 2 & 1; m->c = p[18] >> 1 & 1; m->v = p[18] & 1;
-    m->stop = (uint8_t)p[19]; m->timer = p[20]; m->rate = p[RATE]; m->phase = p[PHASE]; m->switches = p[23]; m->leds = p[24];
-    m->mouse = p[25]; m->serial = p[26]; m->waiting = p[27];
+    set_parts(m, r->now.parts);
     memcpy(m->keys, r->now.keys, KEYS);
     for (uint32_t i = 0; i < PAGES; i++) memcpy(m->memory + PAGE * i, page_of(r->pool, r->now.table[i]), PAGE_BYTES);
 }
@@ -66,7 +62,7 @@ MAY_BE_UNUSED int replay(const uint8_t *text, Run *run) {
 
 static uint8_t *read_file(const char *path) {
     FILE *file = fopen(path, "rb");
-    if (!file || fseek(file, 0, SEEK_END)) die("cannot read the file");
+    if (!file || fseek(file, 0, SEEK_END)) { fprintf(stderr, "%s: cannot read the file\n", path); exit(3); }
     long length = ftell(file);
     rewind(file);
     uint8_t *text = malloc((size_t)length + 1);
@@ -75,12 +71,14 @@ static uint8_t *read_file(const char *path) {
     return text;
 }
 
-/* Replays the recordings that the arguments name, each from nothing, and returns 1 if one of them is false. */
+/* Replays the recordings that the arguments name, each from nothing, and returns 1 if one of them is false. The line of each of several begins
+ * with the name of its file. */
 MAY_BE_UNUSED int replay_files(int argc, char **argv, Run *run) {
     int is_false = 0;
     if (argc < 2) die("usage: replay FILE ..");
     for (int i = 1; i < argc; i++) {
         uint8_t *text = read_file(argv[i]);
+        if (argc > 2) printf("%s: ", argv[i]);
         is_false |= replay(text, run);
         free(text);
     }
