@@ -7,8 +7,7 @@ use risc_devices::Devices;
 use risc_model::Event;
 
 /// Takes the inputs of the count `at`, which begin at the index `index`. Returns the index after them.
-#[cold]
-#[inline(never)]
+#[inline(always)]
 pub(crate) fn take_inputs(devices: &mut Devices, events: &[Event], index: usize, at: u64) -> usize
     requires { IsNextAt events.now index at }
     ensures devices { devices.new ≡ fed events.now at devices.old }
