@@ -7,9 +7,13 @@ import { STATE_BYTES, WORDS } from "./states.js";
 export const LONGEST_RECORDING = 118310056, MOST_COUNT = 2 ** 40;
 export const DONE = 0, NO_ROOM = 2, NO_CHECKPOINT = 5;
 export const ADVANCE_REFUSALS = ["", "a number is out of its range", "more is sent than there is room for", "no memory"];
-const RECORD_REFUSALS = ["", "a number is out of its range", "", "no memory", "the bytes are not a recording", "", "the recording has reached its limit of inputs",
-                         "the recording has reached its limit of checkpoints", "the recording has reached its limit of sent bytes",
-                         "the recording has reached its limit of pages", "the recording has inputs at or after its last checkpoint"];
+/** Why a recording cannot be extended. */
+export const LIMIT_REFUSALS = {
+  inputs: "the recording has reached its limit of inputs", checkpoints: "the recording has reached its limit of checkpoints",
+  sent: "the recording has reached its limit of sent bytes", pages: "the recording has reached its limit of pages",
+};
+const RECORD_REFUSALS = ["", "a number is out of its range", "", "no memory", "the bytes are not a recording", "", ...Object.values(LIMIT_REFUSALS),
+                         "the recording has inputs at or after its last checkpoint"];
 const RECORD_ROOM = 1 << 18, LINE_ROOM = 256;
 const NOT_FOUND = 11, HIT_BYTES = 16;
 // What galluspa_steps writes for each count: the processor, with PC at an offset.

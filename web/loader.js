@@ -1,6 +1,6 @@
 // @ts-check
 /* The page's first script: it unpacks the page's own one, and runs it. The policy of the page names the hashes of both. */
-import { beginUnpacking, unpacked } from "./packed.js";
+import { beginUnpacking, beginWorker, unpacked } from "./packed.js";
 
 // A report that the page makes has the machine as it is before anything changes it: all that comes before this script, which ends it.
 const { innerHTML } = document.currentScript?.parentElement ?? document.body;
@@ -39,6 +39,8 @@ function keepClicks() {
 
 const wholePage = document.readyState === "loading" ? new Promise((goOn) => addEventListener("DOMContentLoaded", goOn)) : Promise.resolve();
 const clickAgain = keepClicks();
-unpacked("main").then(runScript).then(() => wholePage).then(clickAgain).catch(showFailure);
 // A report starts its machine at the first use; the page needs these at once.
-if (!document.getElementById("g-recording")) for (const name of ["module", "worker"]) beginUnpacking(name);
+const isReport = document.getElementById("g-recording") !== null;
+if (!isReport) beginWorker("worker");
+unpacked("main").then(runScript).then(() => wholePage).then(clickAgain).catch(showFailure);
+if (!isReport) beginUnpacking("module");

@@ -11,10 +11,12 @@ import {
   countOf, differingPages, DISPLAY_AT, DISPLAY_BYTES, equalWords, firstDifference, joined, KEY, last, MEMORY_BYTES, MOUSE,
   PER_SECOND, sentText, SERIAL, STATE_BYTES, wordsOf,
 } from "./states.js";
-import { areTrue, firstTable, stretch } from "./stretches.js";
+import { firstTable, stretch, tableAt } from "./stretches.js";
 
 // Checkpoints of a file that are so near to one another are judged together: so many at a time, and within so many steps.
 const MOST_TOGETHER = 256, STEPS_TOGETHER = 1000000, LEAST_TOGETHER = 8;
+// The library reads all of a recording whose claim it returns. So many claims of a file are cut from it for that.
+const CLAIMS_HELD = 64;
 const QUEUE = 16, RECEIVED = 256;
 
 export class Machine extends Emulator {
@@ -41,6 +43,8 @@ export class Machine extends Emulator {
   passed = 0;
   trueTo = 0;
   triedTo = 0;
+  // A part of the recording that is played back: from which claim up to which, its length, and the address of its bytes.
+  held = { first: 0, last: -1, length: 0, address: 0 };
 
   /** @param {Library} library */
   constructor(library) {
@@ -85,7 +89,7 @@ export class Machine extends Emulator {
       this.forgetRecording();
       this.start({ ...claimed, inputs, given: inputs.length, next: checkpoint ? inputs.from(countOf(claimed.state)) : 0, planned });
       Object.assign(this, { recordingAt, recording, passed: checkpoint });
-      this.recorder.isOfFile = true;
+      this.recorder.ofFile = 0;
     } catch (error) {
       this.library.leave(recordingAt);
       throw error;
@@ -168,6 +172,27 @@ export class Machine extends Emulator {
     if (this.recordingAt) this.library.leave(this.recordingAt);
     this.recordingAt = 0;
     this.recording = null;
+    this.forgetHeld();
+  }
+
+  forgetHeld() {
+    if (this.held.address) this.library.leave(this.held.address);
+    this.held = { first: 0, last: -1, length: 0, address: 0 };
+  }
+
+  /** Puts the state and the words that a checkpoint of the recording claims beside the machine's own, to compare with.
+   * @param {Recording} recording
+   * @param {number} number */
+  putClaim(recording, number) {
+    const { library, other } = this;
+    if (number < this.held.first || number > this.held.last) {
+      const end = Math.min(number + CLAIMS_HELD, recording.claims.length - 1), cut = stretch(recording, tableAt(recording, number), number, end);
+      this.forgetHeld();
+      this.held = { first: number, last: end, length: cut.length, address: library.hold(cut) };
+    }
+    const { first, length, address } = this.held;
+    library.claim(address, length, number - first, other, other + STATE_BYTES);
+    library.view.setBigUint64(other, BigInt(recording.claims[number].count), true);
   }
 
   /** The count at which what is played back is over: the inputs and the checkpoints of the file, or of what was kept. */
@@ -353,10 +378,10 @@ export class Machine extends Emulator {
    * @param {number} most */
   mark(most = CHECKPOINT_LIMIT) {
     const isMade = this.marks.length < most && this.recorder.extend(this.address, this.count, this.takenInputs);
-    // The recording is another than the file's from then on, so its next checkpoints are made one by one.
+    // The recording is another than the file's from then on, up to the next checkpoint of the file.
     if (isMade && !this.planned.includes(this.count)) {
-      this.recorder.isOfFile = false;
-      this.trueTo = 0;
+      this.recorder.leaveFile();
+      this.trueTo = this.triedTo = 0;
     }
     return isMade;
   }
@@ -364,13 +389,14 @@ export class Machine extends Emulator {
   /** Has claims of the file that come soon after one another judged by one call of the check, before the machine runs past them. */
   foresee() {
     const { recording, passed, count } = this;
-    if (!recording || !this.isReplay || !this.isTrue || !this.recorder.isOfFile || count < this.triedTo) return;
+    if (!recording || !this.isReplay || this.recorder.ofFile === null || count < this.triedTo) return;
     const { claims } = recording, end = claims[passed].count + STEPS_TOGETHER;
     let last = passed;
     while (last + 1 < claims.length && last < passed + MOST_TOGETHER && claims[last + 1].count <= end) last++;
     if (last < passed + LEAST_TOGETHER) return;
     this.triedTo = claims[last].count;
-    if (areTrue(this.library, recording, passed, last)) this.trueTo = this.triedTo;
+    const cut = stretch(recording, tableAt(recording, passed), passed, last);
+    if (this.recorder.hasRoomFor(cut) && this.library.check(cut).status === 0) this.trueTo = this.triedTo;
   }
 
   /** Passes the claims up to this count that are known to be true. Returns their numbers and counts.
@@ -381,7 +407,7 @@ export class Machine extends Emulator {
     while (recording && number + 1 < recording.claims.length && recording.claims[number + 1].count <= end) number++;
     if (!recording || number === passed) return [];
     const claims = recording.claims.slice(passed + 1, number + 1), length = claims.reduce((sum, { sent }) => sum + sent.length, 0);
-    this.recorder.follow(recording, number);
+    this.recorder.follow(recording, passed, number);
     Object.assign(this, { passed: number, sentSince: [joined(this.sentSince).slice(length)] });
     return claims.map(({ count }, at) => ({ number: passed + 1 + at, count, part: null }));
   }
@@ -392,10 +418,11 @@ export class Machine extends Emulator {
     if (!this.recording || !this.planned.includes(this.count)) return null;
     const number = this.recording.claims.findIndex((claim) => claim.count === this.count);
     if (number < 1) return null;
-    this.library.claim(this.recordingAt, this.recording.bytes.length, number, this.other, this.other + STATE_BYTES);
+    this.putClaim(this.recording, number);
     const own = { state: this.state, words: this.words, sent: joined(this.sentSince) };
     const part = firstDifference(own, { ...this.at(this.other), sent: this.recording.claims[number].sent });
     Object.assign(this, { sentSince: [], passed: number });
+    this.recorder.meet(number, !part && last(this.marks) === this.count);
     if (part) this.falseAt = Math.min(this.falseAt, this.count);
     return { number, count: this.count, part };
   }

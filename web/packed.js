@@ -1,8 +1,10 @@
 // @ts-check
 /* What the page contains in a packed form. The page of web/serve has the addresses of these parts instead. */
 
-/** An element whose content is packed, and what is unpacked of it already.
- * @typedef {HTMLElement & { unpacking?: Promise<Bytes> }} Packed */
+/** The address of a script, and a worker that runs it and that nobody has taken yet. It is dropped if it fails before.
+ * @typedef {{ address: string, worker: Worker | null }} Begun */
+/** An element whose content is packed, and what was begun with it ahead of the page's own script.
+ * @typedef {HTMLElement & { unpacking?: Promise<Bytes>, begun?: Promise<Begun> }} Packed */
 
 /** Returns an element with a packed content by its name.
  * @param {string} name */
@@ -17,6 +19,29 @@ export function beginUnpacking(name) {
   part.unpacking.catch(() => {});
 }
 
+/** Begins to start a worker with a packed script: that takes longer than all else that the page needs.
+ * @param {string} name */
+export function beginWorker(name) {
+  const part = packedPart(name);
+  part.begun = contentOf(part).then(addressOf).then((address) => {
+    const begun = { address, worker: /** @type {Worker | null} */ (new Worker(address)) };
+    if (begun.worker) begun.worker.onerror = () => (begun.worker = null);
+    return begun;
+  });
+  // Whoever asks for it hears why it fails.
+  part.begun.catch(() => {});
+}
+
+/** Returns the address of a packed script, and a worker that runs it, if one was begun.
+ * @param {string} name
+ * @returns {Promise<Begun>} */
+export async function begunWorker(name) {
+  return packedPart(name).begun ?? { address: addressOf(await unpacked(name)), worker: null };
+}
+
+/** @param {Bytes} script */
+const addressOf = (script) => URL.createObjectURL(new Blob([script], { type: "text/javascript" }));
+
 /** Unpacks what the page contains: its scripts, its module, the sources that it offers, or the recording of a report.
  * @param {string} name */
 export function unpacked(name) {
@@ -30,6 +55,8 @@ async function contentOf({ textContent, dataset }) {
   if (dataset.source) return new Uint8Array(await (await fetch(dataset.source)).arrayBuffer());
   const text = atob(textContent ?? ""), packed = new Uint8Array(text.length);
   for (let at = 0; at < text.length; at++) packed[at] = text.charCodeAt(at);
-  const stream = new Blob([packed]).stream().pipeThrough(new DecompressionStream("gzip"));
-  return new Uint8Array(await new Response(stream).arrayBuffer());
+  const { readable, writable } = new DecompressionStream("gzip"), writer = writable.getWriter(), content = new Response(readable).arrayBuffer();
+  // What is wrong with the bytes is said by the end that is read.
+  for (const written of [writer.write(packed), writer.close()]) written.catch(() => {});
+  return new Uint8Array(await content);
 }

@@ -192,13 +192,15 @@ export class History {
     else if (own < keyframe.count) replayer.load(this.keyframes, keyframe);
   }
 
-  /** Brings a replayer to a count. Between two calls `turn` lets others go first; before each one `heard` hears of it. In a gap between
-   * keyframes that takes long it leaves some.
+  /** Brings a replayer to a count. First, and after each call, `turn` lets others go first, and throws where nobody waits any more: a search
+   * that is over must not move the machine that the next one uses. Before each call `heard` hears of it. In a gap between keyframes that
+   * takes long it leaves some.
    * @param {Replayer} replayer
    * @param {number} count
    * @param {() => Promise<void>} turn
    * @param {{ mayBeClaimed?: boolean, heard?: (replayer: Replayer) => void }} how */
   async reach(replayer, count, turn, { mayBeClaimed = false, heard = () => {} } = {}) {
+    await turn();
     this.start(replayer, count, mayBeClaimed);
     while (replayer.count < count) {
       heard(replayer);

@@ -1,20 +1,31 @@
 // @ts-check
 /* The recording in progress. The library begins it with the machine's initial state, and extends it at each checkpoint by the
  * machine's state, and by the inputs and the bytes sent since the checkpoint before. So nothing is run a second time. */
-import { CHECKPOINT_LIMIT, readRecording } from "./formats.js";
+import { chained, firstPages } from "./chains.js";
+import { CHECKPOINT_LIMIT, INPUT_LIMIT, Inputs, readRecording } from "./formats.js";
 import { HEADER, INPUT_BYTES } from "./layout.js";
-import { Refused } from "./library.js";
-import { joined, PAGES } from "./states.js";
-import { firstTable, stretch } from "./stretches.js";
+import { LIMIT_REFUSALS, Refused } from "./library.js";
+import { joined, last, MEMORY_BYTES, PAGES, STATE_BYTES } from "./states.js";
+import { firstTable, stretch, tableAt } from "./stretches.js";
 
 // The recording ends with a checkpoint before one of its limits is reached: while this many bytes can still be sent, and while the
 // pool has room for all the pages that a checkpoint may change.
 const MOST_SENT = 1 << 20, SENT_RESERVE = 1 << 16, MOST_POOL = 65536;
+// The library reads and writes all that it extends. A part with so many checkpoints stays as it is, and the next one begins.
+const PART_CHECKPOINTS = 32;
 
 export class Recorder {
-  made = new Uint8Array();
-  // Whether its checkpoints are those of the file that is played back, and up to which of them it is still to be cut from the file.
-  isOfFile = false;
+  /** The recording so far is a chain of these.
+   * @type {Bytes[]} */
+  parts = [new Uint8Array()];
+  // The count at which the last part begins, how many pages the parts before it add to the chain's pool, and how many the last one has from them.
+  begun = 0;
+  pagesBefore = 0;
+  pagesBegun = 0;
+  // The number of a checkpoint of the file that is played back from which on the recording is the file's, if it is. It is 0 if all of it is.
+  /** @type {number | null} */
+  ofFile = null;
+  // What is still to be cut from the file: up to a checkpoint.
   /** @type {{ recording: Recording, number: number } | null} */
   uncut = null;
   // The counts of its checkpoints, how many inputs it has, and how many bytes were sent up to its last checkpoint.
@@ -36,16 +47,60 @@ export class Recorder {
 
   /** The recording so far. */
   get bytes() {
-    if (this.uncut) this.made = stretch(this.uncut.recording, firstTable(this.uncut.recording), 0, this.uncut.number);
-    this.uncut = null;
-    return this.made;
+    this.cutFile();
+    if (this.parts.length > 1) this.place(chained(this.parts));
+    return this.parts[0];
   }
 
-  /** Goes on to a checkpoint of the file, which is true, as are all before it: the recording so far is the file's up to there.
+  /** How many pages the recording has. */
+  get pages() {
+    this.cutFile();
+    return this.pagesBefore + pagesOf(last(this.parts)) - this.pagesBegun;
+  }
+
+  /** Has a recording as the only part.
+   * @param {Bytes} bytes */
+  place(bytes) {
+    Object.assign(this, { parts: [bytes], begun: 0, pagesBefore: 0, pagesBegun: 0 });
+  }
+
+  /** Goes on with a part that begins at a count.
+   * @param {Bytes} bytes
+   * @param {number} begun */
+  push(bytes, begun) {
+    Object.assign(this, { pagesBefore: this.pagesBefore + pagesOf(last(this.parts)) - this.pagesBegun, pagesBegun: firstPages(bytes), begun });
+    this.parts.push(bytes);
+  }
+
+  /** Begins a part at the last checkpoint. */
+  beginPart() {
+    const { library } = this, part = last(this.parts), held = library.hold(part), state = library.take(STATE_BYTES + MEMORY_BYTES);
+    try {
+      library.claim(held, part.length, checkpointsOf(part) - 1, state, state + STATE_BYTES);
+      library.view.setBigUint64(state, 0n, true);
+      this.push(library.begin(state), last(this.marks));
+    } finally {
+      for (const address of [held, state]) library.leave(address);
+    }
+  }
+
+  /** Cuts what was passed from the file. */
+  cutFile() {
+    const { uncut, ofFile: from } = this;
+    if (!uncut || from === null) return;
+    const { recording, number } = uncut, cut = stretch(recording, tableAt(recording, from), from, number);
+    if (from) this.push(cut, recording.claims[from].count);
+    else this.place(cut);
+    Object.assign(this, { uncut: null, ofFile: from && number });
+  }
+
+  /** Goes on from a checkpoint of the file, at which the recording is, to a later one, which is true, as are those between: the recording goes
+   * on as the file does.
    * @param {Recording} recording
+   * @param {number} from
    * @param {number} number */
-  follow(recording, number) {
-    const passed = recording.claims.slice(this.marks.length + 1, number + 1), length = passed.reduce((sum, { sent }) => sum + sent.length, 0);
+  follow(recording, from, number) {
+    const passed = recording.claims.slice(from + 1, number + 1), length = passed.reduce((sum, { sent }) => sum + sent.length, 0);
     const rest = joined(this.sent).slice(length);
     this.uncut = { recording, number };
     this.marks.push(...passed.map(({ count }) => count));
@@ -53,6 +108,28 @@ export class Recorder {
     this.sentBefore += length;
     this.forgetSent();
     this.note(rest);
+  }
+
+  /** Whether the checkpoints of a stretch of the file have room after those that are there. A recording that is all the file's is as lawful as that.
+   * @param {Bytes} cut */
+  hasRoomFor(cut) {
+    if (this.ofFile === 0) return true;
+    const checkpoints = this.marks.length + checkpointsOf(cut) - 1, pages = this.pages + pagesOf(cut) - firstPages(cut);
+    return checkpoints <= CHECKPOINT_LIMIT && pages <= MOST_POOL;
+  }
+
+  /** Hears whether a checkpoint of the file claims what the last one of the recording does.
+   * @param {number} number
+   * @param {boolean} isSame */
+  meet(number, isSame) {
+    this.cutFile();
+    this.ofFile = isSame ? (this.ofFile === 0 ? 0 : number) : null;
+  }
+
+  /** Leaves the file: the recording is another than the file's from here on. */
+  leaveFile() {
+    this.cutFile();
+    this.ofFile = null;
   }
 
   /** Begins with the state and the words at an address. The state's count is 0.
@@ -66,7 +143,8 @@ export class Recorder {
    * @param {Bytes} sent */
   resume(bytes, sent) {
     const { claims, inputs } = readRecording(bytes);
-    Object.assign(this, { made: bytes, uncut: null, isOfFile: false });
+    Object.assign(this, { uncut: null, ofFile: null });
+    this.place(bytes);
     this.marks = claims.slice(1).map((claim) => claim.count);
     this.taken = inputs.length;
     this.full = null;
@@ -111,7 +189,7 @@ export class Recorder {
   /** The limit of a recording that is so near that no more may fit than a checkpoint at this count, or null. */
   get nearLimit() {
     if (this.room < SENT_RESERVE) return "sent bytes";
-    if (new DataView(this.bytes.buffer, this.bytes.byteOffset).getUint32(HEADER.pages, true) > MOST_POOL - PAGES) return "pages";
+    if (this.pages > MOST_POOL - PAGES) return "pages";
     return this.marks.length >= CHECKPOINT_LIMIT ? "checkpoints" : null;
   }
 
@@ -130,7 +208,7 @@ export class Recorder {
   extend(address, count, inputs) {
     if (this.full || count <= (this.marks.at(-1) ?? 0)) return false;
     try {
-      this.made = this.library.extend(this.bytes, inputs.subarray(INPUT_BYTES * this.taken), address, joined(this.sent));
+      this.extendLast(address, count, inputs);
     } catch (error) {
       if (!(error instanceof Refused)) throw error;
       this.end(error.message);
@@ -143,8 +221,44 @@ export class Recorder {
     return true;
   }
 
+  /** Extends the last part, whose counts begin at 0. It is refused as the library refuses to extend the whole.
+   * @param {number} address
+   * @param {number} count
+   * @param {Bytes} inputs */
+  extendLast(address, count, inputs) {
+    const { library, marks } = this;
+    this.cutFile();
+    if (inputs.length > INPUT_BYTES * INPUT_LIMIT) throw new Refused(LIMIT_REFUSALS.inputs);
+    if (marks.length >= CHECKPOINT_LIMIT) throw new Refused(LIMIT_REFUSALS.checkpoints);
+    if (this.sentTotal > MOST_SENT) throw new Refused(LIMIT_REFUSALS.sent);
+    if (checkpointsOf(last(this.parts)) > PART_CHECKPOINTS) this.beginPart();
+    const { begun, parts, pages } = this, part = last(parts), since = new Inputs(inputs.subarray(INPUT_BYTES * this.taken)).between(begun, Infinity);
+    library.view.setBigUint64(address, BigInt(count - begun), true);
+    try {
+      const made = library.extend(part, since, address, joined(this.sent));
+      if (pages + pagesOf(made) - pagesOf(part) > MOST_POOL) throw new Refused(LIMIT_REFUSALS.pages);
+      parts.splice(-1, 1, made);
+    } finally {
+      library.view.setBigUint64(address, BigInt(count), true);
+    }
+  }
+
   /** Returns what the browser keeps of it. */
   get kept() {
     return { recording: this.bytes, sentSince: joined(this.sent) };
   }
 }
+
+/**
+ * @param {Bytes} bytes
+ * @param {number} field
+ */
+const numberIn = ({ buffer, byteOffset }, field) => new DataView(buffer, byteOffset).getUint32(field, true);
+
+/** Returns how many pages a recording has.
+ * @param {Bytes} bytes */
+const pagesOf = (bytes) => numberIn(bytes, HEADER.pages);
+
+/** Returns how many checkpoints a recording has, with its initial state.
+ * @param {Bytes} bytes */
+const checkpointsOf = (bytes) => numberIn(bytes, HEADER.checkpoints);

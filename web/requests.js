@@ -1,10 +1,10 @@
 // @ts-check
 /* Requests to a worker (worker.js). Each has an answer of its own, or a refusal of its own. */
 import { el } from "./elements.js";
-import { unpacked } from "./packed.js";
+import { begunWorker } from "./packed.js";
 
-// Where the workers have their script from, what kind of script it is, and how many requests were made.
-const scripts = { worker: "", type: /** @type {WorkerType} */ ("classic"), asked: 0 };
+// Where the workers have their script from, what kind of script it is, a worker that runs it already, and how many requests were made.
+const scripts = { worker: "", type: /** @type {WorkerType} */ ("classic"), begun: /** @type {Begun | null} */ (null), asked: 0 };
 
 /** Says where the workers have their script from.
  * @param {string} worker
@@ -17,8 +17,18 @@ function setWorkerScript(worker, type = "classic") {
 export async function placeWorker() {
   const { source } = el("worker").dataset;
   if (source) return setWorkerScript(source, "module");
-  setWorkerScript(URL.createObjectURL(new Blob([await unpacked("worker")], { type: "text/javascript" })));
+  scripts.begun = await begunWorker("worker");
+  setWorkerScript(scripts.begun.address);
 }
+
+/** Returns a worker: the one that was begun, once, or a new one. */
+function takeWorker() {
+  const { begun, worker, type } = scripts;
+  scripts.begun = null;
+  return begun?.worker ?? new Worker(worker, { type });
+}
+
+/** @typedef {import("./packed.js").Begun} Begun */
 
 /** Bad input, or a request that cannot be met. Its message is one line for the user. */
 export class Refusal extends Error {}
@@ -29,16 +39,15 @@ export class Helper {
   waits = new Map();
   broken = "";
 
-  /**
-   * @param {WebAssembly.Module} module
-   * @param {(news: any) => void} news
-   */
+  /** The worker is made at once, and asked to start once the module is there. Nothing else is asked before.
+   * @param {WebAssembly.Module | Promise<WebAssembly.Module>} module
+   * @param {(news: any) => void} news */
   constructor(module, news) {
-    this.worker = new Worker(scripts.worker, { type: scripts.type });
+    this.worker = takeWorker();
     this.worker.onmessage = ({ data }) => (data.id === undefined ? news(data) : this.settle(data));
     this.worker.onerror = (event) => this.fail(event);
     this.worker.onmessageerror = (event) => this.fail(event);
-    this.ready = this.ask("start", { module });
+    this.ready = module instanceof Promise ? module.then((it) => this.ask("start", { module: it })) : this.ask("start", { module });
     // A worker that does not start refuses what it is asked, too: that is what whoever asked hears of.
     this.ready.catch(() => {});
   }

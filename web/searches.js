@@ -253,7 +253,6 @@ export class Searches {
     for (let at = from, end; at < to; at = end) {
       await history.reach(searcher, at, turn);
       if (searcher.part("stop")) return;
-      await turn();
       end = Math.min(to, at + Math.min(pace.steps, MOST_PIECE));
       const piece = this.pieceTo(end), before = outsideOf(searcher);
       if (isSeen) await history.reach(searcher, end, turn);
@@ -275,7 +274,6 @@ export class Searches {
       const steps = Math.min(pace.steps, MOST_PIECE), least = Math.max(from, end - steps), { count } = history.nearest(least);
       first = least - count < steps ? Math.max(from, count) : least;
       await history.reach(searcher, first, turn);
-      await turn();
       const before = outsideOf(searcher);
       yield isSeen && !mayHold(conditions, history.inputs, before, after) ? { steps: end - first, isQuiet: true } : this.pieceTo(end);
       after = before;

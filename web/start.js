@@ -132,14 +132,16 @@ function dropFiles() {
 
 /** Starts the machine. Returns whether this browser can run it. */
 export async function started() {
+  const compiled = unpacked("module").then((bytes) => WebAssembly.compile(bytes)), placed = placeWorker().then(() => new Helper(compiled, heard));
+  // The worker starts, and the module is compiled, while the page makes its parts. What fails is said after that.
+  const begun = Promise.all([compiled, placed]);
+  await Promise.race([placed, begun]).catch(() => {});
   makeDevices();
   makeRegisters();
   makeTimeline();
   showSized();
   try {
-    const module = await WebAssembly.compile(await unpacked("module"));
-    await placeWorker();
-    const live = new Helper(module, heard), past = new Past(module, heardPast);
+    const [module, live] = await begun, past = new Past(module, heardPast);
     await live.ready;
     setMachine(module, live, past);
     past.connect(live);

@@ -24,7 +24,7 @@ const change = (slot, id) => [slot, id];
  * @param {Pick<Claim, "at">} claim
  * @param {Uint32Array} table
  * @returns {[number, number][]} */
-function changesOf({ bytes, version }, { at }, table) {
+export function changesOf({ bytes, version }, { at }, table) {
   const view = new DataView(bytes.buffer, bytes.byteOffset, bytes.length);
   /** @param {number} from */
   const number = (from) => view.getUint32(from, true);
@@ -45,19 +45,10 @@ export function firstTable(recording) {
 /** Returns the table of a checkpoint.
  * @param {Recording} recording
  * @param {number} number */
-function tableAt(recording, number) {
+export function tableAt(recording, number) {
   const table = firstTable(recording);
   for (const claim of recording.claims.slice(1, number + 1)) for (const [slot, id] of changesOf(recording, claim, table)) table[slot] = id;
   return table;
-}
-
-/** Whether the checkpoints of a recording after one and up to another are true if that one is, by one call of the proved check.
- * @param {Library} library
- * @param {Recording} recording
- * @param {number} first
- * @param {number} last */
-export function areTrue(library, recording, first, last) {
-  return library.check(stretch(recording, tableAt(recording, first), first, last)).status === 0;
 }
 
 /** Returns the recording between two checkpoints, in version 2. Its initial state is what the first one claims, its counts and inputs begin at 0
@@ -76,22 +67,37 @@ export function stretch(recording, table, first, last) {
     for (const [slot, id] of changes) table[slot] = id;
     return claimBytes(recording, claim, claims[0].count, changes.map(named));
   });
-  const pages = [...ids.keys()].slice(1).map((id) => recording.bytes.subarray(HEADER_BYTES + PAGE_BYTES * (id - 1)).subarray(0, PAGE_BYTES));
-  const inputs = recording.inputs.between(claims[0].count, claims[claims.length - 1].count);
+  const pages = [...ids.keys()].slice(1).map((id) => pageOf(recording, id)), inputs = recording.inputs.between(claims[0].count, claims[claims.length - 1].count);
+  return recordingOf(pages, inputs, written, claims.slice(1).map((claim) => claim.sent));
+}
+
+/** Returns a page of a recording's pool by its id, which is not 0.
+ * @param {Pick<Recording, "bytes">} recording
+ * @param {number} id */
+export function pageOf({ bytes }, id) {
+  return bytes.subarray(HEADER_BYTES + PAGE_BYTES * (id - 1)).subarray(0, PAGE_BYTES);
+}
+
+/** Returns a recording of these parts, in version 2.
+ * @param {Bytes[]} pages
+ * @param {Bytes} inputs
+ * @param {Bytes[]} claims
+ * @param {Bytes[]} sent */
+export function recordingOf(pages, inputs, claims, sent) {
   const header = new Uint8Array(HEADER_BYTES), view = new DataView(header.buffer);
   header.set(new TextEncoder().encode("ORSR"));
   const { version, pages: pagesAt, inputs: inputsAt, checkpoints } = HEADER;
   for (const [field, number] of [[version, 2], [pagesAt, pages.length], [inputsAt, inputs.length / INPUT_BYTES], [checkpoints, claims.length]])
     view.setUint32(field, number, true);
-  return joined([header, ...pages, inputs, ...written, ...claims.slice(1).map((claim) => claim.sent)]);
+  return joined([header, ...pages, inputs, ...claims, ...sent]);
 }
 
-/** Returns the bytes of a checkpoint in a stretch that begins at a count.
+/** Returns the bytes of a checkpoint in a recording that begins at a count of its own, which may be below 0.
  * @param {Recording} recording
  * @param {Claim} claim
  * @param {number} begin
  * @param {[number, number][]} changes */
-function claimBytes({ bytes, version }, { at, count }, begin, changes) {
+export function claimBytes({ bytes, version }, { at, count }, begin, changes) {
   const claim = new Uint8Array(CLAIM.list + CHANGE_BYTES * changes.length), view = new DataView(claim.buffer);
   claim.set(bytes.subarray(at, at + (version === 1 ? CLAIM.table : CLAIM.changes)));
   view.setBigUint64(0, BigInt(count - begin), true);

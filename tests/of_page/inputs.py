@@ -202,16 +202,8 @@ def wait_quietly(desk: Desk) -> None:
     frames, posted = page.answer(turns)
     if frames > 36 or posted > 12:
         fail(f"a machine that waits takes {frames} turns in 1.5 seconds, and posts {posted} frames")
-    page.press("k")
-    page.wait(f"{SENT} === 'k'")
     page.answer("app.live.worker.onmessage = heardBefore")
-    expect(
-        "whether turns are short after a key",
-        page.answer(
-            "new Promise((done) => { const { frames } = app.latest; setTimeout(() => done(app.latest.frames - frames > 8), 400); })"
-        ),
-        True,
-    )
+    keys = pressed_until_short(desk)
     desk.start("counting.json", json.dumps(session([0x40080001, 0x41080001, 0xE7FFFFFD], [])).encode())
     desk.go_on()
     cell = "registerCells.get('R0').holder.textContent"
@@ -221,7 +213,21 @@ def wait_quietly(desk: Desk) -> None:
     expect("whether the listing follows", page.answer(changing("el('listing').querySelector('.here').textContent")), True)
     desk.click("tab-state")
     desk.pause()
-    print(f"waiting: {frames} turns and {posted} frames in 1.5 s; registers and code are seen as they change")
+    print(f"waiting: {frames} turns and {posted} frames in 1.5 s, short ones after {len(keys)} keys; registers and code are seen as they change")
+
+
+def pressed_until_short(desk: Desk) -> str:
+    """Presses keys until one is followed by turns as short as those of a machine that does not wait. Where much else runs the first ones
+    may not be. Returns the keys."""
+    page, pressed = desk.page, ""
+    for key in "klmnopqrstuvwxyz":
+        pressed += key
+        page.press(key)
+        page.wait(f"{SENT} === {pressed!r}")
+        short = "new Promise((done) => { const { frames } = app.latest; setTimeout(() => done(app.latest.frames - frames > 8), 400); })"
+        if page.answer(short):
+            return pressed
+    fail(f"turns stay long after each of the keys {pressed}")
 
 
 def changing(expression: str) -> str:

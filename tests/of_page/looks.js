@@ -1,9 +1,11 @@
 /* Looks into the past: at random counts, step by step, with little room, at a machine that runs, and at odd programs. */
 "use strict";
 
+const { readFileSync } = require("fs");
+const { join } = require("path");
 const {
-  Desk, Fresh, Keyframes, chance, countOf, drawing, example, expect, expectMoment, fail, readRecording, sorted,
-  withFalseKeyframes, withNumbers, STOPS, KIND_NAMES,
+  FOLDER, Desk, Fresh, History, Keyframes, Library, chance, countOf, drawing, example, expect, expectMoment, fail, readRecording, readSession, sorted,
+  wasm, withFalseKeyframes, withNumbers, STOPS, KIND_NAMES,
 } = require("./workers.js");
 
 /** Keyframes share equal pages, keep to their budget, and give their pages up. */
@@ -31,6 +33,17 @@ function keepKeyframes() {
   keyframes.forgetAfter(-1);
   expect("the pages in use once all are forgotten", keyframes.pool.length, 0);
   console.log(`keyframes: ${number} of 400 stay in the budget, more of them near the cursor; their memories are as they were`);
+}
+
+/** A search that a newer one ended does not move the machine that both use, wherever it goes on. */
+async function moveNothing() {
+  const history = new History(new Library(wasm), () => {}), { searcher } = history, read = (name) => readFileSync(join(FOLDER, name)), isOver = "over";
+  history.begin(1, 0, { ...readSession(read("face.json")), bytes: read("face.orsr") });
+  await history.reach(searcher, 1000, async () => {});
+  for (const count of [10, 1000, 2000]) {
+    const reached = history.reach(searcher, count, async () => { throw isOver; });
+    expect(`a way to ${count} of a search that is over`, [await reached.catch((why) => why), searcher.count], [isOver, 1000]);
+  }
 }
 
 /** Fifty looks at random counts, a thousand steps forward and back, over inputs and a stop. */
@@ -147,4 +160,4 @@ async function findFalseKeyframe() {
   console.log("again: three moments are the same, run from count 0; a keyframe with a false bit is found");
 }
 
-module.exports = [keepKeyframes, look, findFalseKeyframe, lookWhileItRuns, lookInBudget, lookAtOdd];
+module.exports = [keepKeyframes, moveNothing, look, findFalseKeyframe, lookWhileItRuns, lookInBudget, lookAtOdd];

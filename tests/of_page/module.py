@@ -40,8 +40,15 @@ def recordings() -> list[bytes]:
     return texts + [b"ORSR", random.Random(1).randbytes(5000), struct.pack("<4s5I", b"ORSR", 2, 1 << 31, 1 << 31, 1 << 31, 0)]
 
 
+# Stores to another page and sends a byte in each iteration of five steps.
+STORING = [0x5100FFC8, 0x40080001, 0x42280404, 0xA0201000, 0xA0100000, 0xE7FFFFFB]
+
+
 def sessions() -> Iterator[bytes]:
-    """Sessions, and texts that are none for each of the reasons that a reader may have."""
+    """Sessions, one of them with more checkpoints than the page records in one piece, and texts that are none for each of the reasons
+    that a reader may have."""
+    inputs = [(7, "key", 65), (1000, "mouse", 3), (1000, "key", 66), (2500, "serial", 9)]
+    yield json.dumps(session(STORING, range(20, 3001, 20), inputs)).encode()
     yield from (path.read_bytes() for path in sorted(EXAMPLES.glob("*.json")))
     keys = (EXAMPLES / "keys.json").read_text()
     for old, new in BROKEN:

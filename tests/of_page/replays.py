@@ -55,30 +55,58 @@ def take_over_between(desk: Desk) -> None:
     print("replay: a checkpoint by hand between two of many, and a take-over")
 
 
-def replay_false(desk: Desk) -> None:
-    """One of many checkpoints is false: those before it are true, it is named with its part, and those after it are judged each."""
+def mark_between(desk: Desk) -> None:
+    """After a checkpoint by hand between two of many the others are passed in few turns again, and all are in the recording."""
     page = desk.page
-    false, wrong = bytearray(many(FALSE)), galluspa.recording.read(many(FALSE))
-    at = len(false) - sum(len(it.output) for it in wrong.checkpoints)
-    for number in range(FALSE, 200 - 1, -1):
-        changes = next(n for n in range(1025) if struct.unpack_from("<I", false, at - 144 - 8 * n + 140)[0] == n)
-        at -= 144 + 8 * changes
-    struct.pack_into("<I", false, at + 8 + 4 * 3, 7)
-    expect("the program's line", program("check", bytes(false))[0], f"false checkpoint 200 at {200 * APART} part R3")
-    desk.start("false.orsr", bytes(false))
+    desk.start("many.orsr", many(MANY - 1))
+    page.answer("app.live.ask('setRun', { on: true, fast: true, goal: 30100, seconds: 0 })")
+    page.wait("nowCount() === 30100 && !app.latest.on")
+    press_button(desk, "make-checkpoint")
+    page.wait(f"app.latest.marks === {30100 // APART + 1}")
     press_button(desk, "run")
     page.wait("!app.latest.isReplay && !app.latest.on", moving="nowCount()")
-    wanted = [f"at {APART * number:,}: {'false, first in R3' if number == 200 else 'true'}" for number in range(1, FALSE + 1)]
-    expect("what was passed", page.answer(PASSED), wanted)
-    desk.save("false", "a replay of a false recording")
-    expect("its line", page.answer(OWN_LINE).split()[:2], ["accepted", f"{FALSE}"])
-    print("replay: of many checkpoints a false one is named, the others are true")
+    if (turns := page.answer("app.latest.frames")) > MOST_TURNS:
+        fail(f"{MANY} checkpoints, one of them by hand, are passed in {turns} turns")
+    counts = [it.count for it in galluspa.recording.read(desk.save("many", "a replay with a checkpoint by hand")).checkpoints]
+    expect("its checkpoints", counts, sorted([*range(0, APART * MANY, APART), 30100]))
+    print(f"replay: {MANY} checkpoints, one of them by hand, in {turns} turns")
+
+
+def falsified(text: bytes, numbers: range) -> bytes:
+    """Returns a recording in which checkpoints claim another R3."""
+    false, read = bytearray(text), galluspa.recording.read(text)
+    at = len(false) - sum(len(it.output) for it in read.checkpoints)
+    for number in range(len(read.checkpoints) - 1, 0, -1):
+        changes = next(n for n in range(1025) if struct.unpack_from("<I", false, at - 144 - 8 * n + 140)[0] == n)
+        at -= 144 + 8 * changes
+        if number in numbers:
+            struct.pack_into("<I", false, at + 8 + 4 * 3, 7)
+    return bytes(false)
+
+
+def replay_false(desk: Desk) -> None:
+    """One or more of many checkpoints are false: those before are true, each one is named with its part, and the recording has what the machine
+    came to."""
+    page = desk.page
+    for numbers in (range(200, 201), range(100, FALSE)):
+        false = falsified(many(FALSE), numbers)
+        first = numbers[0]
+        expect("the program's line", program("check", false)[0], f"false checkpoint {first} at {first * APART} part R3")
+        desk.start("false.orsr", false)
+        press_button(desk, "run")
+        page.wait("!app.latest.isReplay && !app.latest.on", moving="nowCount()")
+        wanted = [f"at {APART * number:,}: {'false, first in R3' if number in numbers else 'true'}" for number in range(1, FALSE + 1)]
+        expect("what was passed", page.answer(PASSED), wanted)
+        expect("whether the machine's own is recorded", desk.save("false", "a replay of a false recording"), many(FALSE))
+        expect("its line", page.answer(OWN_LINE).split()[:2], ["accepted", f"{FALSE}"])
+    print("replay: of many checkpoints each false one is named, the others are true")
 
 
 def wait_for_storage(desk: Desk) -> None:
     """While a storage does not answer, the page says at once what it waits for when another machine is opened."""
     page = desk.page
-    page.answer("IDBFactory.prototype.open = () => ({}); storage.connection?.close(); storage.connection = null")
+    # An answer that is under way would still come.
+    page.wait("!storage.opening && (IDBFactory.prototype.open = () => ({}), storage.connection?.close(), storage.connection = null, true)")
     page.answer("el('speed').value = 'clock'")
     press_button(desk, "draw")
     page.wait("app.latest?.on && document.activeElement === el('screen')")
@@ -95,4 +123,4 @@ def wait_for_storage(desk: Desk) -> None:
     print("storage: one that does not answer is said to be waited for")
 
 
-TASKS = (replay_many, take_over_between, replay_false, wait_for_storage)
+TASKS = (replay_many, take_over_between, mark_between, replay_false, wait_for_storage)

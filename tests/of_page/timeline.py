@@ -470,7 +470,7 @@ def branch(desk: Desk) -> None:
     expect("the inputs of the machine after them", page.answer("app.latest.inputs"), 2)
     desk.click("take-here")
     page.wait(f"!isPast() && nowCount() === {parent}")
-    expect("what was sent before it", page.answer(SENT), "a")
+    page.wait(f"{SENT} === 'a'")
     desk.go_on()
     page.press("c")
     page.wait(f"{SENT} === 'ac'")
