@@ -128,8 +128,8 @@ export class History {
     this.epoch++;
     this.looker.forget();
     this.searcher.forget();
-    this.whereabouts.forget();
-    this.tracing.forget();
+    this.whereabouts.errand.forget();
+    this.tracing.errand.forget();
   }
 
   /** @param {LiveKeyframe} keyframe */

@@ -2,7 +2,6 @@
 /* Where the program was: its PC at each count of a short span, by the library's trace, or at the keyframes of a long one. */
 import { INPUT_BYTES } from "./layout.js";
 import { Refused } from "./library.js";
-import { Replayer } from "./replayer.js";
 import { AT, field } from "./states.js";
 import { Errand, isWhole } from "./tasks.js";
 
@@ -15,18 +14,6 @@ export class Whereabouts {
   constructor(history) {
     this.history = history;
     this.errand = new Errand(history);
-    /** @type {Replayer | null} */
-    this.own = null;
-  }
-
-  /** The machine that runs through short spans, which is made once it is needed. */
-  get replayer() {
-    return (this.own ??= new Replayer(this.history.library));
-  }
-
-  /** Forgets where that machine is. */
-  forget() {
-    this.own?.forget();
   }
 
   /** Returns PC at the counts of a span. A newer request ends this one.
@@ -43,7 +30,7 @@ export class Whereabouts {
    * @param {() => Promise<void>} turn
    * @returns {Promise<ProgramCounters>} */
   async stepped(from, to, turn) {
-    const { history, replayer } = this, { inputs, library } = history, pcs = new Uint32Array(to - from);
+    const { history, errand: { replayer } } = this, { inputs, library } = history, pcs = new Uint32Array(to - from);
     await history.reach(replayer, from, turn, { mayBeClaimed: history.mayBeClaimed(to) });
     while (replayer.count < to) {
       const { count } = replayer, end = Math.min(to, count + STEPS_AT_ONCE);

@@ -1,6 +1,7 @@
 // @ts-check
 /* Tasks of the worker that looks into the past: how they let others go first, and how they end. */
 import { Refused } from "./library.js";
+import { Replayer } from "./replayer.js";
 
 /** Says that nobody waits for an answer any more: something newer came, or another machine. */
 export class Ended extends Error {}
@@ -38,10 +39,22 @@ export class Errand {
   asked = 0;
   /** @type {Promise<unknown>} */
   underWay = Promise.resolve();
+  /** @type {Replayer | null} */
+  own = null;
 
   /** @param {import("./past.js").History} history */
   constructor(history) {
     this.history = history;
+  }
+
+  /** The machine, which is made once it is needed. */
+  get replayer() {
+    return (this.own ??= new Replayer(this.history.library));
+  }
+
+  /** Forgets where the machine is. */
+  forget() {
+    this.own?.forget();
   }
 
   /** Does a task about the machine up to a count, with a turn between its pieces. Returns null if it was ended.

@@ -4,7 +4,7 @@
 import { operandsOf } from "./instructions.js";
 import { INPUT_BYTES } from "./layout.js";
 import { Refused, STEP_BYTES } from "./library.js";
-import { loadAddress, Replayer } from "./replayer.js";
+import { loadAddress } from "./replayer.js";
 import { flagsText, hex, MEMORY_BYTES, REGISTERS } from "./states.js";
 import { Errand } from "./tasks.js";
 import { ADDRESS, isFlag, linesOf, Trace } from "./tracefiles.js";
@@ -21,18 +21,6 @@ export class Tracing {
   constructor(history) {
     this.history = history;
     this.errand = new Errand(history);
-    /** @type {Replayer | null} */
-    this.own = null;
-  }
-
-  /** The machine that is compared, which is made once it is needed. */
-  get replayer() {
-    return (this.own ??= new Replayer(this.history.library));
-  }
-
-  /** Forgets where that machine is. */
-  forget() {
-    this.own?.forget();
   }
 
   /** Ends what is under way. Its answer is null. */
@@ -48,7 +36,7 @@ export class Tracing {
     return this.errand.run({ generation, to: 0 }, async (turn) => {
       await history.known(generation, Infinity);
       await turn();
-      return new Comparison(history, this.replayer, given, turn).answer();
+      return new Comparison(history, this.errand.replayer, given, turn).answer();
     });
   }
 }
@@ -68,7 +56,7 @@ class Comparison {
 
   /**
    * @param {import("./past.js").History} history
-   * @param {Replayer} replayer
+   * @param {import("./replayer.js").Replayer} replayer
    * @param {Requests["trace"][0]} given
    * @param {() => Promise<void>} turn
    */

@@ -3,7 +3,6 @@
  * come first. Sums at some counts are kept, so that a cursor that moves a little is followed at once. */
 import { Pace } from "./emulator.js";
 import { INPUT_BYTES } from "./layout.js";
-import { Replayer } from "./replayer.js";
 import { WORDS } from "./states.js";
 import { Errand } from "./tasks.js";
 
@@ -25,21 +24,14 @@ export class Visits {
   constructor(history) {
     this.history = history;
     this.errand = new Errand(history);
-    /** @type {Replayer | null} */
-    this.own = null;
     this.pace = new Pace(PIECE_MS, LEAST_PIECE);
-  }
-
-  /** The machine that counts, which is made once it is needed. */
-  get replayer() {
-    return (this.own ??= new Replayer(this.history.library));
   }
 
   /** Forgets what came after a count.
    * @param {number} count */
   forgetAfter(count) {
     this.sums = this.sums.filter((sum) => sum.count <= count);
-    this.own?.forget();
+    this.errand.forget();
   }
 
   /** Returns how often the machine executed each word from a count on and before another. A newer request ends this one.
@@ -57,7 +49,7 @@ export class Visits {
   async counted(given, turn) {
     const { from, to } = given, { epoch } = this.history, known = from ? undefined : this.sums.findLast(({ count }) => count <= to);
     const times = known ? known.times.slice() : new Float64Array(WORDS), begun = known?.count ?? from;
-    await this.history.reach(this.replayer, begun, turn);
+    await this.history.reach(this.errand.replayer, begun, turn);
     try {
       // Two stops on the way leave sums that a cursor which goes back begins with.
       for (const stop of [...BEFORE.map((far) => to - far).filter((count) => !from && count > begun), to]) {
@@ -66,7 +58,7 @@ export class Visits {
       }
     } finally {
       // What is counted goes on from here if it was ended for a newer one.
-      if (!from && this.history.epoch === epoch && this.replayer.count > begun) this.keep({ count: this.replayer.count, times: times.slice() });
+      if (!from && this.history.epoch === epoch && this.errand.replayer.count > begun) this.keep({ count: this.errand.replayer.count, times: times.slice() });
     }
     const words = Uint32Array.from({ length: WORDS }, (_, at) => at).filter((at) => times[at]);
     return { from, to, words, times: Float64Array.from(words, (at) => times[at]) };
@@ -78,9 +70,9 @@ export class Visits {
    * @param {Requests["visits"][0]} given
    * @param {() => Promise<void>} turn */
   async countTo(stop, times, { generation, from, to }, turn) {
-    while (this.replayer.count < stop) {
+    while (this.errand.replayer.count < stop) {
       this.piece(times, stop);
-      this.history.report({ counted: { generation: Number(generation), to, done: this.replayer.count - from, of: to - from } });
+      this.history.report({ counted: { generation: Number(generation), to, done: this.errand.replayer.count - from, of: to - from } });
       await turn();
     }
   }
@@ -89,7 +81,7 @@ export class Visits {
    * @param {Float64Array} times
    * @param {number} stop */
   piece(times, stop) {
-    const { history, replayer, pace } = this, { library, inputs } = history, { count } = replayer, begun = performance.now();
+    const { history, errand: { replayer }, pace } = this, { library, inputs } = history, { count } = replayer, begun = performance.now();
     const to = Math.min(stop, count + Math.max(LEAST_PIECE, pace.steps));
     this.address ||= library.take(16 * WORDS);
     library.profile(replayer.address, inputs.bytes.subarray(INPUT_BYTES * inputs.from(count), INPUT_BYTES * inputs.from(to)), to, this.address, this.address + 8 * WORDS);
