@@ -20,6 +20,7 @@ const withLines = (script, lines) => script.replace(/\}\)\(\);\s*$/, (end) => `$
 (0, eval)(withLines(workerScript, `globalThis.tell = (data) => onmessage({ data });
 globalThis.runToLast = () => turnTo(machine.planned.at(-1) ?? 0, Infinity);
 globalThis.cut = cutAll;
+globalThis.chain = (bytes, ends) => chained(cutAll(bytes, ends));
 globalThis.operands = operandsOf;
 globalThis.times = { pages: () => differingPages(new Uint8Array(MEMORY_BYTES), new Uint8Array(MEMORY_BYTES)), feed: () => machine.feed() };
 globalThis.joinStretches = (bytes, size) => unlessRefused(() => new Checker(machine, size).line(machine.lawful(bytes), () => {}));
@@ -35,12 +36,12 @@ globalThis.document = { readyState: "loading" };
 const encoded = (_, value) => (value instanceof Uint8Array ? Buffer.from(value).toString("base64") : value);
 
 /** The answer of the worker to a request; bytes are given in base64. `record` opens a session, runs it to its last checkpoint, and has the
- * recording. `cut` has the stretches of a recording, and `join` the line that those of about so many steps make. `time` has the least time of a task. */
+ * recording. `cut` has the stretches of a recording, `chain` what they make up again, and `join` the line that those of about so many steps make. `time` has the least time of a task. */
 async function answerTo([ask, given]) {
   if (ask === "instruction") return { answer: [...ofPage.instruction(...given), operands(given[0])] };
   const { base64, ...rest } = given;
   const content = base64 === undefined ? {} : { bytes: new Uint8Array(Buffer.from(base64, "base64")) };
-  if (ask === "cut") return JSON.parse(JSON.stringify({ answer: cut(content.bytes, rest.ends) }, encoded));
+  if (ask === "cut" || ask === "chain") return JSON.parse(JSON.stringify({ answer: globalThis[ask](content.bytes, rest.ends) }, encoded));
   if (ask === "time") return { answer: leastTime(times[given.what]) };
   if (ask === "join") return { answer: joinStretches(content.bytes, rest.size) };
   await told({ ask: ask === "record" ? "openSession" : ask, ...rest, ...content });

@@ -213,7 +213,9 @@ def wait_quietly(desk: Desk) -> None:
     expect("whether the listing follows", page.answer(changing("el('listing').querySelector('.here').textContent")), True)
     desk.click("tab-state")
     desk.pause()
-    print(f"waiting: {frames} turns and {posted} frames in 1.5 s, short ones after {len(keys)} keys; registers and code are seen as they change")
+    print(
+        f"waiting: {frames} turns and {posted} frames in 1.5 s, short ones after {len(keys)} keys; registers and code are seen as they change"
+    )
 
 
 def pressed_until_short(desk: Desk) -> str:
@@ -224,7 +226,9 @@ def pressed_until_short(desk: Desk) -> str:
         pressed += key
         page.press(key)
         page.wait(f"{SENT} === {pressed!r}")
-        short = "new Promise((done) => { const { frames } = app.latest; setTimeout(() => done(app.latest.frames - frames > 8), 400); })"
+        short = (
+            "new Promise((done) => { const { frames } = app.latest; setTimeout(() => done(app.latest.frames - frames > 8), 400); })"
+        )
         if page.answer(short):
             return pressed
     fail(f"turns stay long after each of the keys {pressed}")

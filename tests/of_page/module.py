@@ -5,6 +5,7 @@ import json
 import random
 import struct
 import subprocess
+from array import array
 from collections.abc import Iterable, Iterator
 from dataclasses import replace
 from pathlib import Path
@@ -149,15 +150,29 @@ def compare_recording(note: bytes, made: bytes, wanted: bytes) -> bool:
     if len(own.events) == len(other.events) and not names_zeros:
         expect(f"the recording of {note[:60]!r}", made == wanted, True)
         return True
-    claims = [
-        [replace(it, start=0, table=recording.memory(it, 0, 1 << 20)) for it in recording.checkpoints] for recording in (own, other)
-    ]
-    expect(f"the claims of {note[:60]!r}", *claims)
+    expect(f"the claims of {note[:60]!r}", claims_of(own), claims_of(other))
     return False
 
 
+def claims_of(read: galluspa.recording.Recording) -> list[tuple]:
+    """What the checkpoints of a recording claim, with their memories in place of page ids."""
+    return [(replace(it, start=0, table=array("I")), read.memory(it, 0, 1 << 20)) for it in read.checkpoints]
+
+
+def compare_chain(text: bytes, ends: list[int], made: bytes) -> None:
+    """What stretches of a recording make up claims what the recording does, and has its inputs up to the last checkpoint."""
+    what = f"what {len(ends) - 1} stretches of {text[:30]!r} make up"
+    own, other = galluspa.recording.read(made), galluspa.recording.read(text)
+    expect(f"the line of {what}", program("check", made), program("check", text))
+    expect(
+        f"the inputs of {what}", list(own.events), [event for event in other.events if event.count < other.checkpoints[-1].count]
+    )
+    expect(f"the claims of {what}", claims_of(own) == claims_of(other), True)
+
+
 def compare_stretches() -> None:
-    """The page cuts stretches as tools/slice does, byte for byte, and their lines make the program's line, however long they are."""
+    """The page cuts stretches as tools/slice does, byte for byte, makes the recording of them again, and their lines make the program's line,
+    however long they are."""
     texts = [text for text in recordings() if program("check", text)[1] != REFUSED]
     ends = [[*range(len(galluspa.recording.read(text).checkpoints))] for text in texts]
     ends += [[0, len(it) - 1] for it in ends]
@@ -166,13 +181,16 @@ def compare_stretches() -> None:
         read = galluspa.recording.read(text)
         wanted = [galluspa.recording.write(stretch(read, first, last)) for first, last in zip(it, it[1:])]
         expect(f"the stretches of {text[:30]!r}", [base64.b64decode(one) for one in answer["answer"]], wanted)
+    whole = [(text, it) for text, it in zip(texts * 2, ends, strict=True) if len(it) > 1]
+    for (text, it), answer in zip(whole, answers(PAGE, [asked("chain", text, ends=it) for text, it in whole]), strict=True):
+        compare_chain(text, it, base64.b64decode(answer["answer"]))
     sizes = [(text, max(1, galluspa.recording.read(text).checkpoints[-1].count // share)) for text in texts for share in (1, 3, 13)]
     lines = [answer["answer"] for answer in answers(PAGE, [asked("join", text, size=size) for text, size in sizes])]
     for (text, size), line in zip(sizes, lines, strict=True):
         expect(f"the line of {text[:30]!r} by stretches of {size} steps", (line["line"], line["status"]), program("check", text))
     false = sum(line["status"] for line in lines)
     print(
-        f"stretches: {sum(map(len, ends)) - len(ends)} cut as the tools cut them; {len(lines)} lines, {false} of them false, as the program says"
+        f"stretches: {sum(map(len, ends)) - len(ends)} cut as the tools cut them, and chained again; {len(lines)} lines, {false} of them false, as the program says"
     )
 
 

@@ -95,7 +95,9 @@ def replay_false(desk: Desk) -> None:
         desk.start("false.orsr", false)
         press_button(desk, "run")
         page.wait("!app.latest.isReplay && !app.latest.on", moving="nowCount()")
-        wanted = [f"at {APART * number:,}: {'false, first in R3' if number in numbers else 'true'}" for number in range(1, FALSE + 1)]
+        wanted = [
+            f"at {APART * number:,}: {'false, first in R3' if number in numbers else 'true'}" for number in range(1, FALSE + 1)
+        ]
         expect("what was passed", page.answer(PASSED), wanted)
         expect("whether the machine's own is recorded", desk.save("false", "a replay of a false recording"), many(FALSE))
         expect("its line", page.answer(OWN_LINE).split()[:2], ["accepted", f"{FALSE}"])
@@ -106,7 +108,9 @@ def wait_for_storage(desk: Desk) -> None:
     """While a storage does not answer, the page says at once what it waits for when another machine is opened."""
     page = desk.page
     # An answer that is under way would still come.
-    page.wait("!storage.opening && (IDBFactory.prototype.open = () => ({}), storage.connection?.close(), storage.connection = null, true)")
+    page.wait(
+        "!storage.opening && (IDBFactory.prototype.open = () => ({}), storage.connection?.close(), storage.connection = null, true)"
+    )
     page.answer("el('speed').value = 'clock'")
     press_button(desk, "draw")
     page.wait("app.latest?.on && document.activeElement === el('screen')")
