@@ -40,7 +40,6 @@ function keepClicks() {
 const wholePage = document.readyState === "loading" ? new Promise((goOn) => addEventListener("DOMContentLoaded", goOn)) : Promise.resolve();
 const clickAgain = keepClicks();
 // A report starts its machine at the first use; the page needs these at once.
-const isReport = document.getElementById("g-recording") !== null;
-if (!isReport) beginWorker("worker");
-unpacked("main").then(runScript).then(() => wholePage).then(clickAgain).catch(showFailure);
+const isReport = document.getElementById("g-recording") !== null, begunWorker = isReport ? Promise.resolve() : beginWorker("worker");
+Promise.all([unpacked("main"), begunWorker]).then(([bytes]) => runScript(bytes)).then(() => wholePage).then(clickAgain).catch(showFailure);
 if (!isReport) beginUnpacking("module");

@@ -1,5 +1,6 @@
 // @ts-check
 /* What the page contains in a packed form. The page of web/serve has the addresses of these parts instead. */
+import { joined } from "./states.js";
 
 /** The address of a script, and a worker that runs it and that nobody has taken yet. It is dropped if it fails before.
  * @typedef {{ address: string, worker: Worker | null }} Begun */
@@ -19,8 +20,9 @@ export function beginUnpacking(name) {
   part.unpacking.catch(() => {});
 }
 
-/** Begins to start a worker with a packed script: that takes longer than all else that the page needs.
- * @param {string} name */
+/** Begins to start a worker with a packed script: that takes longer than all else that the page needs. What is returned waits until it is made.
+ * @param {string} name
+ * @returns {Promise<unknown>} */
 export function beginWorker(name) {
   const part = packedPart(name);
   part.begun = contentOf(part).then(addressOf).then((address) => {
@@ -29,7 +31,7 @@ export function beginWorker(name) {
     return begun;
   });
   // Whoever asks for it hears why it fails.
-  part.begun.catch(() => {});
+  return part.begun.catch(() => {});
 }
 
 /** Returns the address of a packed script, and a worker that runs it, if one was begun.
@@ -55,8 +57,11 @@ async function contentOf({ textContent, dataset }) {
   if (dataset.source) return new Uint8Array(await (await fetch(dataset.source)).arrayBuffer());
   const text = atob(textContent ?? ""), packed = new Uint8Array(text.length);
   for (let at = 0; at < text.length; at++) packed[at] = text.charCodeAt(at);
-  const { readable, writable } = new DecompressionStream("gzip"), writer = writable.getWriter(), content = new Response(readable).arrayBuffer();
+  const { readable, writable } = new DecompressionStream("gzip"), writer = writable.getWriter(), reader = readable.getReader();
   // What is wrong with the bytes is said by the end that is read.
   for (const written of [writer.write(packed), writer.close()]) written.catch(() => {});
-  return new Uint8Array(await content);
+  /** @type {Bytes[]} */
+  const pieces = [];
+  for (let read; !(read = await reader.read()).done; ) pieces.push(read.value);
+  return joined(pieces);
 }

@@ -28,9 +28,9 @@ function cutAll(bytes, ends) {
   const recording = machine.lawful(bytes), table = firstTable(recording);
   return ends.slice(1).map((end, at) => stretch(recording, table, ends[at], end));
 }`));
-// The page's own script is only asked for its functions of one value.
+// The page's own script is only asked for its functions of one value. In a report it waits for the whole page.
 globalThis.addEventListener = () => {};
-globalThis.document = { readyState: "loading" };
+globalThis.document = { readyState: "loading", documentElement: { dataset: { report: "" } } };
 (0, eval)(withLines(unpacked("main").toString(), "globalThis.ofPage = { instruction, codesOf };"));
 
 const encoded = (_, value) => (value instanceof Uint8Array ? Buffer.from(value).toString("base64") : value);

@@ -45,13 +45,13 @@ globalThis.Worker = class {
 
 globalThis.navigator ??= { hardwareConcurrency: 4 };
 
-// The worker's classes, for runs that the answers are compared with; and the page's own.
+// The worker's classes, for runs that the answers are compared with; and the page's own, which waits for the whole page in a report.
 globalThis.onmessage = null;
 globalThis.postMessage = () => {};
 globalThis.addEventListener = () => {};
 const withLines = (script, lines) => script.replace(/\}\)\(\);\s*$/, (end) => `${lines}\n${end}`);
 (0, eval)(withLines(workerScript, "globalThis.kit = { Library, Replayer, Keyframes, History, readSession, readRecording, countOf, field, AT };"));
-globalThis.document = { readyState: "loading" };
+globalThis.document = { readyState: "loading", documentElement: { dataset: { report: "" } } };
 (0, eval)(withLines(unpacked("main").toString(), "globalThis.ofPage = { Past, Helper, setWorkerScript };"));
 const { Library, Replayer, Keyframes, History, readSession, readRecording, countOf, field, AT } = kit;
 const { Past, Helper, setWorkerScript } = ofPage;
