@@ -2,9 +2,15 @@
 /* The page's first script: it unpacks the page's own one, and runs it. The policy of the page names the hashes of both. */
 import { beginUnpacking, beginWorker, unpacked } from "./packed.js";
 
-// A report that the page makes has the machine as it is before anything changes it: all that comes before this script, which ends it.
-const { innerHTML } = document.currentScript?.parentElement ?? document.body;
-Object.assign(globalThis, { machineAsBuilt: `${innerHTML.slice(innerHTML.indexOf('<div id="galluspa">'))}\n` });
+// A report that the page makes has the machine as it is before anything changes it, and what follows up to this script, which ends it.
+const script = document.currentScript, machine = document.getElementById("galluspa"), built = machine?.cloneNode(true);
+Object.assign(globalThis, {
+  machineAsBuilt: () => {
+    const copy = document.createElement("div");
+    for (let node = /** @type {Node | null} */ (machine); node; node = node === script ? null : node.nextSibling) copy.append((node === machine && built ? built : node).cloneNode(true));
+    return `${copy.innerHTML}\n`;
+  },
+});
 
 // A report says its name before the page's own script is there to hear it.
 Object.assign(globalThis, { beginReport: (/** @type {string} */ name) => (document.documentElement.dataset.report = name) });
@@ -39,7 +45,7 @@ function keepClicks() {
 
 const wholePage = document.readyState === "loading" ? new Promise((goOn) => addEventListener("DOMContentLoaded", goOn)) : Promise.resolve();
 const clickAgain = keepClicks();
-// A report starts its machine at the first use; the page needs these at once.
-const isReport = document.getElementById("g-recording") !== null, begunWorker = isReport ? Promise.resolve() : beginWorker("worker");
+// A report, which has the machine in a part of it, starts it at the first use; the page needs these at once.
+const isReport = document.getElementById("live") !== null, begunWorker = isReport ? Promise.resolve() : beginWorker("worker");
 Promise.all([unpacked("main"), begunWorker]).then(([bytes]) => runScript(bytes)).then(() => wholePage).then(clickAgain).catch(showFailure);
 if (!isReport) beginUnpacking("module");

@@ -15,7 +15,6 @@ function startPage() {
 // A report that tools/report makes calls this with its name.
 Object.assign(globalThis, { beginReport });
 
-// The page's script comes last, so that all of the page is there. A report goes on after it.
-const isReport = document.documentElement.dataset.report !== undefined || document.getElementById("g-recording") !== null;
-if (isReport && document.readyState === "loading") addEventListener("DOMContentLoaded", startPage);
+// The page's script comes last, so that all of the page is there. A report has the machine in a part of it, and goes on after that.
+if (document.getElementById("live") && document.readyState === "loading") addEventListener("DOMContentLoaded", startPage);
 else startPage();

@@ -91,7 +91,7 @@ function partsOf({ symbols, sources }) {
 /** Returns a report, in pieces. Only a page that was built can make one: that of web/serve has no machine to put into it.
  * @param {Reported} reported */
 export async function reportPage(reported) {
-  const { machineAsBuilt } = /** @type {{ machineAsBuilt?: string }} */ (globalThis);
+  const { machineAsBuilt } = /** @type {{ machineAsBuilt?: () => string }} */ (globalThis);
   if (!machineAsBuilt) throw new Refusal("Only the page that web/build makes can save a report.");
   const { name, bytes, note, line, at } = reported, begin = `beginReport(${quoted(name)});`;
   const style = new TextDecoder().decode(await unpacked("report-style"));
@@ -110,7 +110,7 @@ export async function reportPage(reported) {
 `, headOf(reported), await aboutOf(reported), `<p class="about"><button id="check-again" type="button">Check again</button><span id="again" role="status">This page holds the proved checker and the
   recording: it computes the line anew, in this browser, and runs the machine on from any checkpoint. Nothing leaves this computer.</span></p>
 <div id="live" data-at="${at}" hidden>
-`, machineAsBuilt, `
+`, machineAsBuilt(), `
 </div>
 <script type="text/plain" id="g-recording">`, await packed(bytes), "</script>\n", ...(await partsOf(reported)), `<script>${begin}</script>
 </body>

@@ -30,7 +30,7 @@ function cutAll(bytes, ends) {
 }`));
 // The page's own script is only asked for its functions of one value. In a report it waits for the whole page.
 globalThis.addEventListener = () => {};
-globalThis.document = { readyState: "loading", documentElement: { dataset: { report: "" } } };
+globalThis.document = { readyState: "loading", getElementById: () => ({}) };
 (0, eval)(withLines(unpacked("main").toString(), "globalThis.ofPage = { instruction, codesOf };"));
 
 const encoded = (_, value) => (value instanceof Uint8Array ? Buffer.from(value).toString("base64") : value);

@@ -51,7 +51,7 @@ globalThis.postMessage = () => {};
 globalThis.addEventListener = () => {};
 const withLines = (script, lines) => script.replace(/\}\)\(\);\s*$/, (end) => `${lines}\n${end}`);
 (0, eval)(withLines(workerScript, "globalThis.kit = { Library, Replayer, Keyframes, History, readSession, readRecording, countOf, field, AT };"));
-globalThis.document = { readyState: "loading", documentElement: { dataset: { report: "" } } };
+globalThis.document = { readyState: "loading", getElementById: () => ({}) };
 (0, eval)(withLines(unpacked("main").toString(), "globalThis.ofPage = { Past, Helper, setWorkerScript };"));
 const { Library, Replayer, Keyframes, History, readSession, readRecording, countOf, field, AT } = kit;
 const { Past, Helper, setWorkerScript } = ofPage;
