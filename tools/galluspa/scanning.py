@@ -19,7 +19,7 @@ from galluspa.library import FIRST, LAST, WORDS, Inputs, Library, Machine, RawCo
 from galluspa.recording import Event
 
 # So many instructions are scanned at once: first few, then twice as many each time.
-FIRST_SCANNED, MOST_SCANNED = 1 << 10, 1 << 14
+FIRST_SCANNED, MOST_SCANNED = 1 << 10, 1 << 16
 # How many numbers a processor has, and where its flags are. As registers of a condition they come right after H.
 NUMBERS, FLAGS = PROCESSOR.size // 4, 18
 FLAGS_CONDITION = 17
