@@ -319,9 +319,9 @@ export class Machine extends Emulator {
    * @param {number} seconds
    * @param {number} from */
   nextStop(seconds, from = 0) {
-    if (this.isReplay) return this.planned.find((count) => count > this.count && count >= from) ?? this.end;
-    const step = seconds * PER_SECOND;
-    return step ? (Math.floor(this.count / step) + 1) * step : Infinity;
+    const { count } = this, step = seconds * PER_SECOND;
+    if (this.isReplay) return this.planned.find((planned) => planned > count && planned >= from) ?? this.end;
+    return step ? (Math.floor(count / step) + 1) * step : Infinity;
   }
 
   /** Whether the recording in progress is the machine's own: a replay of a recording keeps within the limits that its file
@@ -415,16 +415,17 @@ export class Machine extends Emulator {
   /** Compares the recording's claim at this count with the machine. Returns its number, and the name of the first part that
    * differs, or null. */
   judge() {
-    if (!this.recording || !this.planned.includes(this.count)) return null;
-    const number = this.recording.claims.findIndex((claim) => claim.count === this.count);
+    const { recording, count, planned, recorder } = this;
+    if (!recording || !planned.includes(count)) return null;
+    const number = recording.claims.findIndex((claim) => claim.count === count);
     if (number < 1) return null;
-    this.putClaim(this.recording, number);
+    this.putClaim(recording, number);
     const own = { state: this.state, words: this.words, sent: joined(this.sentSince) };
-    const part = firstDifference(own, { ...this.at(this.other), sent: this.recording.claims[number].sent });
+    const part = firstDifference(own, { ...this.at(this.other), sent: recording.claims[number].sent });
     Object.assign(this, { sentSince: [], passed: number });
-    this.recorder.meet(number, !part && last(this.marks) === this.count);
-    if (part) this.falseAt = Math.min(this.falseAt, this.count);
-    return { number, count: this.count, part };
+    recorder.meet(number, !part && last(this.marks) === count);
+    if (part) this.falseAt = Math.min(this.falseAt, count);
+    return { number, count, part };
   }
 
   /** Returns what a checkpoint of the recording claims, and what has changed since the checkpoint before.
