@@ -95,11 +95,12 @@ export class Recorder {
   }
 
   /** Goes on from a checkpoint of the file, at which the recording is, to a later one, which is true, as are those between: the recording goes
-   * on as the file does.
+   * on as the file does, unless it has left the file or is full.
    * @param {Recording} recording
    * @param {number} from
    * @param {number} number */
   follow(recording, from, number) {
+    if (this.ofFile === null) return;
     const passed = recording.claims.slice(from + 1, number + 1), length = passed.reduce((sum, { sent }) => sum + sent.length, 0);
     const rest = joined(this.sent).slice(length);
     this.uncut = { recording, number };
@@ -196,6 +197,7 @@ export class Recorder {
   /** Ends the recording for a reason. It is full, at the count of its last checkpoint.
    * @param {string} why */
   end(why) {
+    this.leaveFile();
     this.full = { why, isEnd: true, count: this.marks.at(-1) ?? 0 };
   }
 
