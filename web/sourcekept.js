@@ -18,11 +18,13 @@ const openItem = { id: "", timer: 0, isDue: false, release: () => {} };
  * @param {unknown} id */
 export const isSourceId = (id) => typeof id === "string" && id.startsWith(PREFIX);
 
-/** Keeps the source soon: it was changed. */
+/** Keeps the source soon: it was changed. Who types on does not put that off. */
 export function keepSourceSoon() {
   openItem.isDue = true;
-  clearTimeout(openItem.timer);
-  openItem.timer = setTimeout(() => attempt(keepSource), SOON_MS);
+  openItem.timer ||= setTimeout(() => {
+    openItem.timer = 0;
+    attempt(keepSource);
+  }, SOON_MS);
 }
 
 /** Returns what is kept of the source that is open. */

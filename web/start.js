@@ -110,6 +110,7 @@ function listenToWindow() {
   addEventListener("beforeunload", (event) => {
     if (isAnyUnkept() || isUnsafe()) event.preventDefault();
     attempt(keepAtOnce);
+    attempt(keepSourceAtOnce);
   });
 }
 

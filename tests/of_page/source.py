@@ -381,7 +381,7 @@ def keep(desk: Desk) -> None:
     type_line(desk, "        MOV R7, 123")
     type_line(desk, "kept:   B kept")
     text = page.answer("editor.text")
-    page.wait(ASSEMBLED)
+    page.wait(f"{ASSEMBLED} && !openItem.isDue")
     desk.reload()
     press_button(desk, "write")
     page.wait(f"editor?.text.includes('MOV R7, 123') && {ASSEMBLED}")

@@ -9,7 +9,6 @@ from multiprocessing import get_context
 from multiprocessing.connection import Connection, wait
 from multiprocessing.process import BaseProcess
 from pathlib import Path
-from tempfile import TemporaryDirectory
 
 from galluspa import children, recording
 from galluspa.arena import Arena, Parting, other_of
@@ -21,6 +20,7 @@ from galluspa.limits import Limit
 from galluspa.randomtrials import BATCH, trials
 from galluspa.reduction import Reducer, ended
 from galluspa.steps import step_between
+from galluspa.temporary import temporary_folder
 from galluspa.trials import Trial
 
 # Of one in so many trials it is counted what they exercise.
@@ -193,11 +193,11 @@ def _work(plan: Plan, process: int, pipe: Connection, folder: Path) -> None:
 def compared(plan: Plan, limit: Limit) -> Iterator[Message | None]:
     """Yields what several processes find, until the time is over; None now and then, if nothing is found."""
     pipes, processes = list[Connection](), list[BaseProcess]()
-    with TemporaryDirectory(prefix="galluspa-") as folder:
+    with temporary_folder() as folder:
         try:
             for process in range(plan.jobs):
                 with children.shielded():
-                    _begin(plan, process, Path(folder), pipes, processes)
+                    _begin(plan, process, folder, pipes, processes)
             while pipes and not limit.is_over:
                 ready = wait(pipes, children.WAIT_SECONDS)
                 if not ready:

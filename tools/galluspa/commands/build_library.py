@@ -13,13 +13,13 @@ import hashlib
 import shutil
 import subprocess
 import sys
-import tempfile
 from argparse import Namespace
 from collections.abc import Iterator, Sequence
 from pathlib import Path
 
 from galluspa.command import Parser, Refused
 from galluspa.places import TOP
+from galluspa.temporary import temporary_folder
 
 CRATES = TOP / "crates"
 LIBRARY = "galluspa"
@@ -158,8 +158,7 @@ def build(known: dict[str, list[str]], crates: Sequence[str], keeps: Sequence[st
     """Builds all three."""
     kit_folder = kit()
     OUT.mkdir(exist_ok=True)
-    with tempfile.TemporaryDirectory() as name:
-        folder = Path(name)
+    with temporary_folder() as folder:
         link(compile_crate(known, crates, kit_folder, folder, keeps), kit_folder, folder)
 
 

@@ -13,7 +13,6 @@ from argparse import Namespace
 from collections.abc import Iterator
 from dataclasses import dataclass, field
 from pathlib import Path
-from tempfile import TemporaryDirectory
 from textwrap import dedent
 from xml.etree import ElementTree
 
@@ -29,6 +28,7 @@ from galluspa.fuzzing import Broken, Plan, Tally, compared
 from galluspa.instructions import CONDITIONS, OPERATIONS
 from galluspa.library import Library
 from galluspa.limits import Limit
+from galluspa.temporary import temporary_folder
 from galluspa.trials import Trial
 
 SECONDS, ANSWER_SECONDS, SESSIONS, SEEDS = 60, 10, 1 << 40, 1 << 32
@@ -145,8 +145,8 @@ def plan_of(asked: Namespace) -> Plan:
 
 def try_once(plan: Plan) -> None:
     """Sees that the other emulator answers at all."""
-    with TemporaryDirectory(prefix="galluspa-") as folder:
-        other = other_of(plan.words, plan.seconds, plan.library, Path(folder))
+    with temporary_folder() as folder:
+        other = other_of(plan.words, plan.seconds, plan.library, folder)
         try:
             Arena(plan.library, other, plan.ignored).parting(Trial((0,) * 16, {}, 1))
         finally:

@@ -2,7 +2,6 @@
 """
 
 import hashlib
-import tempfile
 import time
 from argparse import Namespace
 from pathlib import Path
@@ -12,6 +11,7 @@ from galluspa.command import Failed, Parser, Refused, write_file
 from galluspa.escapes import printable
 from galluspa.packages import Contents, about, architecture, debian, library_folder, tarball
 from galluspa.program import Program
+from galluspa.temporary import temporary_folder
 from galluspa.version import last_commit, of_commit
 
 
@@ -50,9 +50,9 @@ def main(asked: Namespace) -> int:
     files = list(Contents(program, library, version, written).files())
     name = f"galluspa_{version}_{architecture()}"
     try:
-        with tempfile.TemporaryDirectory() as room:
+        with temporary_folder() as room:
             made = {
-                f"{name}.deb": debian(files, version, Path(room), when),
+                f"{name}.deb": debian(files, version, room, when),
                 f"{name}.tar.gz": tarball([*files, about()], f"galluspa-{version}", when),
             }
     except OSError as error:

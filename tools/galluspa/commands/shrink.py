@@ -11,7 +11,6 @@ from argparse import Namespace
 from collections.abc import Sequence
 from dataclasses import dataclass
 from pathlib import Path
-from tempfile import TemporaryDirectory
 from textwrap import dedent
 
 from galluspa import children, recording, sessions
@@ -24,6 +23,7 @@ from galluspa.limits import Limit, TimeIsUp
 from galluspa.program import Program
 from galluspa.reduction import Reducer
 from galluspa.sessions import COUNTS
+from galluspa.temporary import temporary_folder
 from galluspa.trials import Trial
 
 SECONDS, ANSWER_SECONDS = 600, 60
@@ -138,8 +138,8 @@ def main(asked: Namespace) -> int:
     if not any(name in word for word in asked.command for name in (SESSION, RECORDING)):
         raise Refused(f"put {SESSION} or {RECORDING} into an argument of COMMAND")
     trial, library = trial_of(asked), Library.find(asked.library)
-    with TemporaryDirectory(prefix="galluspa-") as folder:
-        question = Question(asked.command, asked.answer_seconds, library, Path(folder), Limit(asked.limit), trial)
+    with temporary_folder() as folder:
+        question = Question(asked.command, asked.answer_seconds, library, folder, Limit(asked.limit), trial)
         if not question.is_wrong(trial):
             raise Refused(f"{asked.session}: COMMAND does not say that it is wrong, by a status from 1 to {LAST_WRONG}")
         over = shrunk(question, trial)
