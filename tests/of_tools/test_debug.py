@@ -484,7 +484,7 @@ class CommandsTest(ToolTest):
             self.file("false.orsr", claimed),
             "--batch",
             "--limit",
-            1,
+            4,
             "-ex",
             "at 0",
             "-ex",
@@ -492,7 +492,7 @@ class CommandsTest(ToolTest):
             "-ex",
             "continue",
         )
-        self.assertEqual((ran.status, ran.errors), (3, "galluspa debug: -ex continue: no answer in 1 s\n"))
+        self.assertEqual((ran.status, ran.errors), (3, "galluspa debug: -ex continue: no answer in 4 s\n"))
 
 
 class TerminalTest(ToolTest):

@@ -254,7 +254,7 @@ class ReportInBrowserTest(ReportTest):
         ):
             with self.running.page(self.report(change(STORED))) as page:
                 self.assert_sound(page, line, "rgb(179, 38, 30)")
-                self.assertEqual(page.answer("document.querySelector('.at').innerText"), marked)
+                self.assertEqual(page.answer("document.querySelector('.at').textContent.trim()"), marked)
                 self.assertEqual(page.answer("document.images.length"), 0)
 
     def test_a_long_recording_opens_in_seconds(self) -> None:

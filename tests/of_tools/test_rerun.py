@@ -340,9 +340,9 @@ class OutputTest(RerunsTest):
         with self.running.page(page_file) as page:
             self.assertEqual(page.errors, [])
             self.assertEqual(page.answer("document.querySelector('h1').innerText"), "1 of 2 as approved")
-            shown: Any = page.answer("[...document.querySelectorAll('.case.bad figcaption')].map(it => it.innerText)")
+            shown: Any = page.answer("[...document.querySelectorAll('.case.bad figcaption')].map(it => it.textContent.trim())")
             self.assertEqual(shown[0::2], ["it, approved", "what differs, in red"])
-            self.assertIn("-\\c1<", page.answer("document.querySelector('.case.bad pre').innerText"))
+            self.assertIn("-\\c1<", page.answer("document.querySelector('.case.bad pre').textContent"))
             self.assertEqual(page.answer("document.querySelectorAll('.case:not(.bad) img').length"), 1)
             for width in browser.WIDTHS:
                 page.resize(width, 1000)

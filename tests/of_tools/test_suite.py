@@ -199,7 +199,7 @@ class PageTest(SuitesTest):
             self.assertEqual(page.errors, [])
             self.assertTrue(all(url.startswith(("file:", "data:")) for url in page.requests), page.requests)
             self.assertEqual(page.answer("document.querySelector('h1').innerText"), "4 of 5 as expected")
-            names: Any = page.answer("[...document.querySelectorAll('.case h3')].map(it => it.innerText)")
+            names: Any = page.answer("[...document.querySelectorAll('.case h3')].map(it => it.textContent.trim())")
             self.assertEqual(names[:4], ["a.orsr", "b/false.orsr", "c/short.orsr", "face.orsr"])
             self.assertEqual(page.answer("document.querySelectorAll('.case.bad').length"), 1)
             self.assertEqual(page.answer("document.querySelectorAll('#changes li').length"), 5)
