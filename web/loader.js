@@ -7,7 +7,8 @@ const script = document.currentScript, machine = document.getElementById("gallus
 Object.assign(globalThis, {
   machineAsBuilt: () => {
     const copy = document.createElement("div");
-    for (let node = /** @type {Node | null} */ (machine); node; node = node === script ? null : node.nextSibling) copy.append((node === machine && built ? built : node).cloneNode(true));
+    for (let node = /** @type {Node | null} */ (machine); node; node = node === script ? null : node.nextSibling)
+      copy.append((node === machine && built ? built : node).cloneNode(true));
     return `${copy.innerHTML}\n`;
   },
 });
