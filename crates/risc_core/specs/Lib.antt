@@ -5,5 +5,6 @@ pub mod Flags
 pub mod Instruction
 pub mod Arithmetic
 pub mod Branch
+pub mod Written
 pub mod Place
 pub mod Laws

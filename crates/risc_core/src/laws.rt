@@ -1,5 +1,5 @@
 //! The laws of this crate's definitions. Each is the contract of a function that does nothing.
-ghost use Rattle.risc_core.specs.Laws.{DivisionLaw, BitsLaw, WidthLaw, FlagsLaw, NumbersLaw, InstructionLaw};
+ghost use Rattle.risc_core.specs.Laws.{DivisionLaw, BitsLaw, WidthLaw, FlagsLaw, NumbersLaw, CounterLaw, InstructionLaw};
 
 /// States that the quotient and the remainder are the only pair of their definition.
 pub const fn division_law()
@@ -24,6 +24,11 @@ pub const fn flags_law()
 /// States the number of each operation, of each condition and of the link register.
 pub const fn numbers_law()
     ensures { NumbersLaw }
+{}
+
+/// States the value of the end of the program counters.
+pub const fn counter_law()
+    ensures { CounterLaw }
 {}
 
 /// States that each word is the sum of the fields of one instruction, and of no other.

@@ -26,7 +26,9 @@ pub use branch::{COUNTER_END, LINK_REGISTER, link, reg_target, taken, taken_by_t
 pub use decoding::decode;
 pub use flags::{Flags, written};
 pub use instruction::Instr;
-pub use laws::{bits_law, division_law, flags_law, instruction_law, numbers_law, width_law};
+pub use laws::{
+    bits_law, counter_law, division_law, flags_law, instruction_law, numbers_law, width_law,
+};
 pub use locate::{DEVICES, RAM_END, place};
 pub use stop::Stop;
 pub use sums::{Sum, add, subtract};

@@ -1,7 +1,6 @@
 -- Worked examples of the definitions, computed outright.
-use Rattle.std.proofs.Common.{◌≡◌, ◌^◌, [], ◌∷◌, true, false, refl, slice_index}
+use Rattle.std.proofs.Common.{◌≡◌, [], ◌∷◌, true, false, refl, slice_index}
 use Rattle.risc_core.specs.Branch.{is_taken, link_value, register_target}
-use Rattle.risc_model.specs.declared.inputs.TheConstants.{MAX_COUNT}
 use Rattle.risc_model.specs.Lane.{lane_byte, with_lane}
 use Rattle.risc_model.specs.MachineState.{CpuState}
 use Rattle.risc_model.specs.Exec.{branched}
@@ -30,7 +29,3 @@ linked = refl
 link : slice_index (branched 7 true (register_target (slice_index before.r 15)) before).r 15 ≡ 0x0C
 unfolding branched is_taken link_value register_target
 link = refl
-
--- the greatest count
-max-count : MAX_COUNT ≡ 2 ^ 40
-max-count = refl

@@ -7,3 +7,7 @@ pub mod IdleLoopLemmas
 pub mod VisitLemmas
 pub mod IdleVisitLemmas
 pub mod Examples
+pub mod CallExamples
+pub mod CallLemmas
+pub mod TurnLemmas
+pub mod JumpLemmas

@@ -7,4 +7,7 @@ pub mod Replay
 pub mod OneRun
 pub mod IdleLoops
 pub mod Visits
+pub mod Calls
+pub mod Turns
+pub mod Inclusive
 pub mod Laws

@@ -1,5 +1,5 @@
 //! The laws of this crate's definitions. Each is the contract of a function that does nothing.
-ghost use Rattle.risc_model.specs.Laws.{RunLaw, StoppedLaw, StopLaw, IdleLoopLaw, IdleVisitLaw, LaneLaw, VisitLaw};
+ghost use Rattle.risc_model.specs.Laws.{RunLaw, StoppedLaw, StopLaw, IdleLoopLaw, IdleVisitLaw, LaneLaw, LastCountLaw, VisitLaw, CallsLaw, TurnsLaw, StackLaw, InclusiveLaw};
 
 /// States that a run continues a run, and so do the bytes that it sends.
 pub const fn run_law()
@@ -31,7 +31,32 @@ pub const fn idle_visit_law()
     ensures { IdleVisitLaw }
 {}
 
+/// States the value of the greatest count of an input.
+pub const fn last_count_law()
+    ensures { LastCountLaw }
+{}
+
 /// States that a byte stored in a lane of a word is the byte of that lane, and that the other lanes keep theirs.
 pub const fn lane_law()
     ensures { LaneLaw }
+{}
+
+/// States that the open calls and the turns of a run continue those of a run.
+pub const fn calls_law()
+    ensures { CallsLaw }
+{}
+
+/// States that the turns of a run say which calls are open after it.
+pub const fn turns_law()
+    ensures { TurnsLaw }
+{}
+
+/// States that the open calls of a run are a stack: their counts rise, and R14 falls along it.
+pub const fn stack_law()
+    ensures { StackLaw }
+{}
+
+/// States that inclusive counts of a run continue those of a run.
+pub const fn inclusive_law()
+    ensures { InclusiveLaw }
 {}

@@ -971,9 +971,20 @@ fn counts_of(alloc: Global, example: Example, steps: u64) -> Option<Counts> {
 
 /// Returns the counts of a run of an example, with this clock.
 fn counts_at(alloc: Global, example: Example, clock: Clock, steps: u64) -> Option<Counts> {
+    counts_with(alloc, example, &[], clock, steps)
+}
+
+/// Returns the counts of a run of an example, with these inputs and this clock.
+fn counts_with(
+    alloc: Global,
+    example: Example,
+    rows: &[(u64, u8, u32)],
+    clock: Clock,
+    steps: u64,
+) -> Option<Counts> {
     let pool = pool_of(alloc, example).ok()?;
     let mut machine = machine_at(alloc, &pool, example, clock)?;
-    let inputs = inputs_of(alloc, &[])?;
+    let inputs = inputs_of(alloc, rows)?;
     let mut counters = Counters::new(alloc).ok()?;
     let mut sent = Vec::new(alloc);
     let first = *machine.cpu();
@@ -1027,4 +1038,46 @@ fn counts_visits_of_a_long_wait(rt: HostRuntime) {
             )),
         "reader"
     );
+}
+
+/// Sets the LEDs, by R1, in a loop of three words.
+const LIGHTS: [u32; 4] = [0xA010_0000, 0x0200_0002, 0xE7FF_FFFD, 0];
+
+/// Stores R0 to the word at R1, and branches to it.
+const ELSEWHERE: [u32; 4] = [0xA010_0000, 0xC700_0001, 0, 0];
+
+/// Waits for a switch in a loop whose load, at the word 1, is done at each odd count; and then jumps to itself.
+const WAITING: [u32; 4] = [0x5100_FFC0, 0x8010_0004, 0xE1FF_FFFE, JUMP];
+
+#[test]
+fn counts_visits_of_long_waits_that_do_slow_steps(rt: HostRuntime) {
+    let lights = example_of(LIGHTS, [0, 0xFFFF_FFC4, 0, 0]);
+    let rounds = 333_333_333_333;
+    let counts = counts_of(rt.alloc(), lights, LONG_WAIT);
+    assert!(rt;
+        counts == Some(([rounds + 1, rounds, rounds, 0], [0, 0, rounds, 0])),
+        "lights"
+    );
+    let last_word = example_of(ELSEWHERE, [JUMP, 0x000F_FFFC, 0, 0]);
+    let counts = counts_of(rt.alloc(), last_word, LONG_WAIT);
+    assert!(rt;
+        counts == Some(([1, 1, 0, 0], [0, 1, 0, 0])),
+        "the last word"
+    );
+}
+
+#[test]
+fn counts_visits_of_long_waits_that_end(rt: HostRuntime) {
+    let waiting = example_of(WAITING, [0; 4]);
+    let switch = [(500_000_000_000, 2, 1)];
+    let rounds = 250_000_000_001;
+    let after = LONG_WAIT - 1 - 2 * rounds;
+    let counts = counts_with(rt.alloc(), waiting, &switch, UNCOUNTED, LONG_WAIT);
+    assert!(rt;
+        counts == Some(([1, rounds, rounds, after], [0, 0, rounds - 1, after])),
+        "a switch"
+    );
+    let stopper = example_of([0xA010_0000, 0, 0, 0], [5, 0x20_0000, 6, 0]);
+    let counts = counts_with(rt.alloc(), stopper, &switch, UNCOUNTED, LONG_WAIT);
+    assert!(rt; counts == Some(([1, 0, 0, 0], [1, 0, 0, 0])), "a stop");
 }
