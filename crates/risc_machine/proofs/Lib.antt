@@ -21,4 +21,7 @@ pub mod WrittenLemmas
 pub mod WatchLemmas
 pub mod TallyLemmas
 pub mod BranchLemmas
-pub mod CountingLemmas
+pub mod ObserverLemmas
+pub mod FollowLemmas
+pub mod FollowerLemmas
+pub mod FollowingLemmas

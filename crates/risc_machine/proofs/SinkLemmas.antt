@@ -1,7 +1,7 @@
 -- Runs with output of a bounded length.
 use Rattle.std.specs.Prelude.{◌≡◌, ◌≤◌, ◌∷◌, [], ℕ, List, Result, Ok, Err, OnOk, IfErr, length, slice_index}
 use Rattle.std.proofs.Common.{ap, subst, sym}
-use Rattle.risc_machine.specs.declared.output.Output.{Output}
+use Rattle.risc_machine.specs.declared.sink.Output.{Output}
 
 -- the output has room for its bytes
 abbrev pub Taken : Output → Type 0

@@ -6,6 +6,7 @@ pub mod Rows
 pub mod DecodedOps
 pub mod Matched
 pub mod Entries
+pub mod Follows
 pub mod Frames
 pub mod Operands
 pub mod RunExits
@@ -13,3 +14,5 @@ pub mod Destinations
 pub mod Notes
 pub mod Jumps
 pub mod Branches
+pub mod Observers
+pub mod Passes

@@ -4,49 +4,50 @@
 //! devices are in the crates below. This crate puts them together and keeps the loop fast.
 #![tactic(auto)]
 
-mod board;
+mod accesses;
 mod branch_log;
+mod branches;
+mod call_log;
 mod clocked;
-mod counted_search;
 mod counters;
-mod counting;
-mod counting_run;
 mod decode_cache;
 mod decoded_op;
 mod destination;
 mod dispatch;
-mod due;
+mod follow;
+mod follower;
+mod following;
 mod frame;
+mod hop;
 mod idle_loop;
-mod lane;
 mod laws;
 mod lines;
 mod machine;
-mod old_word;
+mod observer;
 mod operand;
-mod output;
-mod own_run;
 mod perform;
 mod predecode;
 mod processor;
 mod registers;
 mod run;
 mod run_exit;
+mod running;
 mod schedule;
+mod searching;
 mod sink;
 mod status;
 mod store_log;
 mod watch;
 
+pub use call_log::CallLog;
 pub use counters::Counters;
 pub use laws::capacity_law;
 pub use machine::Machine;
-pub use old_word::OldWord;
-pub use output::Output;
 pub use risc_model::{
-    Cpu, Event, Flags, Inputs, MAX_COUNT, Unordered, idle_loop_law, idle_visit_law, lane_law,
-    run_law, stop_law, stopped_law, visit_law,
+    Call, Cpu, Event, Flags, Inputs, MAX_COUNT, Turn, Unordered, calls_law, idle_loop_law,
+    idle_visit_law, lane_law, run_law, stop_law, stopped_law, visit_law,
 };
 pub use run_exit::RunFault;
-pub use store_log::StoreLog;
+pub use sink::Output;
+pub use store_log::{OldWord, StoreLog};
 pub use watch::Watch;

@@ -2,8 +2,6 @@
 ghost use Rattle.std.specs.Prelude.{◌≡◌, ◌≤◌, ◌++◌, ◌∷◌, [], List, ℕ, Bool, true, false, IsTrue, OnOk, OnErr, length, ◌↔◌};
 ghost use Rattle.risc_machine.specs.inner.Matched.{HasMatched};
 
-use crate::output::Output;
-
 /// A sink did not take a byte, since it has no room for it, or no memory.
 #[derive(Clone, Copy)]
 pub(crate) struct NotTaken;
@@ -40,6 +38,15 @@ impl Sink for Vec<u8> {
             Err(_) => Err(NotTaken),
         }
     }
+}
+
+/// The bytes that a machine sent, and for how many there is room. A run that takes it ends before it would send more.
+#[derive(Drop)]
+pub struct Output {
+    /// The bytes, in order.
+    pub bytes: Vec<u8>,
+    /// The most bytes that there may be.
+    pub room: usize,
 }
 
 impl Sink for Output {

@@ -1,12 +1,16 @@
-use Rattle.std.proofs.Common.{sym, subst}
-use Rattle.risc_model.specs.MachineState.{InRange}
-use Rattle.risc_machine.specs.Allocation.{Held}
-use Rattle.risc_machine.specs.inner.Boards.{held_of}
-use Rattle.risc_machine.proofs.RangeLemmas.{step-in_range}
+use Rattle.std.proofs.Common.{ℕ, Some, ap, sym, ◌∙◌, arith}
+use Rattle.risc_model.specs.MachineState.{State}
+use Rattle.risc_model.specs.Exec.{exec}
+use Rattle.risc_machine.proofs.CountLemmas.{exec_sends}
+use Rattle.risc_machine.proofs.SilentLemmas.{silent-still, silent-step}
 use Rattle.risc_machine.proofs.machine.Machine.step.Goals as goal
 
-pub invariant_of-self : goal.invariant_of-self
-invariant_of-self c =
-    let P : Held → Type 0 = λ h. InRange h.state.cpu in
-    let done = step-in_range _ (held_of c.self.inside.board) (held_of c.step-sent.new.self) c.step-sent.ensures.exec c.step-sent.ensures.err c.self.invariant.range in
-    record { range = subst P (sym c.show.ensures.held) done; shown = c.show.ensures.shown; decoded = c.show.ensures.decoded }
+pub returns-in-Over-clause-exec : goal.returns-in-Over-clause-exec
+returns-in-Over-clause-exec c = silent-step _ _ c.in-Over.ensures.exit
+
+pub returns-in-Sends-clause-exec : goal.returns-in-Sends-clause-exec
+returns-in-Sends-clause-exec c =
+    let step = c.in-Sends.ensures.exit.0 in
+    let sends = c.in-Sends.ensures.exit.1 in
+    ap (λ (s : State). exec s) (silent-still _ _ _ (omega (arith, step.more)) step.silent) ∙ exec_sends _ _ sends ∙ c.send.ensures.sent
+    ∙ ap (λ (byte : ℕ). (c.send.new.self.state, Some byte)) (sym c.lowest_byte.ensures)
