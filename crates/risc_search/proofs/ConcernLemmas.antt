@@ -6,6 +6,7 @@ use Rattle.std.proofs.lemmas.Option.{none-some}
 use Rattle.risc_core.specs.declared.address.Place.{Place}
 use Rattle.risc_core.specs.declared.address.Place.TheVariants.{Ram, Device, Nowhere}
 use Rattle.risc_core.specs.declared.arithmetic.AluOut.{AluOut}
+use Rattle.risc_core.specs.declared.flags.Flags.{Flags as FlagsOf}
 use Rattle.risc_core.specs.declared.instruction.Instr.{Instr}
 use Rattle.risc_core.specs.declared.instruction.Instr.TheVariants.{Reg, Imm, Load, Store, BranchReg, BranchOff}
 use Rattle.risc_core.specs.declared.stop.Stop.{Stop}
@@ -23,20 +24,23 @@ use Rattle.risc_model.proofs.RunLemmas.{fed-others, feed-nothing}
 use Rattle.risc_machine.specs.Watches.{AreUnwatched, IsUnwatched}
 use Rattle.risc_search.specs.declared.access.Access.{Access}
 use Rattle.risc_search.specs.declared.concerns.Concerns.{Concerns}
+use Rattle.risc_search.specs.declared.condition.Clause.{Clause}
 use Rattle.risc_search.specs.declared.condition.Condition.{Condition}
-use Rattle.risc_search.specs.declared.condition.Condition.TheVariants.{Counter, Store as Stored, Change, Load as Loaded, Becomes, Sends, SendsByte, Takes, Stops}
+use Rattle.risc_search.specs.declared.condition.Condition.TheVariants.{Counter, Store as Stored, Change, Load as Loaded, Becomes, Sends, SendsByte, Takes, Stops, Writes, Is, IsWord}
 use Rattle.risc_search.specs.declared.register.Register.{Register}
 use Rattle.risc_search.specs.declared.register.Register.TheVariants.{Numbered, Auxiliary, Flags}
 use Rattle.risc_search.specs.declared.span.Span.{Span}
-use Rattle.risc_search.specs.Access.{access_to, accessed, next_access}
+use Rattle.risc_search.specs.Access.{access_to, accessed, next_access, next_instruction}
 use Rattle.risc_search.specs.Changes.{Differ}
-use Rattle.risc_search.specs.Condition.{Accesses, Holds, register_value}
+use Rattle.risc_search.specs.Condition.{Accesses, Holds, IsNextWriting, register_value}
+use Rattle.risc_core.specs.Written.{links, written_register}
 use Rattle.risc_search.specs.Search.{NoneIn}
 use Rattle.risc_search.specs.Span.{IsIn}
 use Rattle.risc_search.specs.Step.{step_from}
 use Rattle.risc_search.specs.inner.Concerns.{CoverAll, Covers, CoversRegister, Includes, IsAll, IsIgnored, IsNamed, written}
 use Rattle.risc_search.specs.inner.Due.{IsQuiet}
 use Rattle.risc_search.specs.inner.Observed.{word_stored}
+use Rattle.risc_search.proofs.ClauseLemmas.{all-hold}
 use Rattle.risc_search.proofs.IdleLemmas.{quiet-fewer, quiet-run}
 use Rattle.risc_search.proofs.StoreLemmas.{step-alone}
 
@@ -58,6 +62,9 @@ covers-more new old Sends more covers = tt
 covers-more new old (SendsByte byte) more covers = tt
 covers-more new old (Takes kind) more covers = tt
 covers-more new old Stops more covers = tt
+covers-more new old (Writes register) more covers = more-register new old register more covers
+covers-more new old (Is register values) more all = λ pc below. more.counters pc (all pc below)
+covers-more new old (IsWord number mask values) more all = λ pc below. more.counters pc (all pc below)
 
 -- ---- registers that an instruction does not write
 
@@ -224,6 +231,37 @@ not-becomes (Numbered n) concerns s value here (inr all) was is = not-all concer
 not-becomes Auxiliary concerns s value here all was is = not-all concerns s here all
 not-becomes Flags concerns s value here all was is = not-all concerns s here all
 
+-- a register that is covered is not written
+links-written : (link taken : Bool) (n : ℕ) → cond (link && taken) (Some 15) None ≡ Some n → cond link (Some 15) None ≡ Some n
+links-written true true n is = is
+links-written true false n is = absurd (none-some n is)
+links-written false taken n is = absurd (none-some n is)
+
+register-written : (i : Instr) (f : FlagsOf) (n : ℕ) → written_register i f ≡ Some n → written i ≡ Some n
+unfolding written written_register links
+register-written (Reg op u v a b c) f n is = is
+register-written (Imm op u v a b im) f n is = is
+register-written (Load byte a b off) f n is = is
+register-written (Store byte a b off) f n is = is
+register-written (BranchReg number link c) f n is = links-written link (is_taken number f) n is
+register-written (BranchOff number link off) f n is = links-written link (is_taken number f) n is
+
+next-there : (s : State) → s.cpu.stop ≡ 0 → s.cpu.pc < 2 ^ 18 → next_instruction s.cpu s.words ≡ Some (instruction_of (get_or s.words s.cpu.pc 0))
+unfolding next_instruction
+next-there s runs inside =
+    let running : nat_eq s.cpu.stop 0 ≡ true = eq-eqb s.cpu.stop 0 runs in
+    let low : nat_lt s.cpu.pc (2 ^ 18) ≡ true = lt-ltb s.cpu.pc (2 ^ 18) inside in
+    rw running (rw low refl)
+
+not-writes : (register : Register) (concerns : Concerns) (s : State) → IsUnwatched (IsIgnored concerns) s → CoversRegister concerns register → IsNextWriting register s.cpu (next_instruction s.cpu s.words) → ⊥
+not-writes (Numbered n) concerns s here (inl named) writes =
+    let i : Instr = instruction_of (get_or s.words s.cpu.pc 0) in
+    let is : written_register i s.cpu.flags ≡ Some n = subst (λ (o : Option Instr). IsNextWriting (Numbered n) s.cpu o) (next-there s here.runs here.inside) writes in
+    false≢true (sym (some-of (written i) (λ a. IsNamed concerns a ≡ false) n here.ignored.register (register-written i s.cpu.flags n is)) ∙ named)
+not-writes (Numbered n) concerns s here (inr all) writes = not-all concerns s here all
+not-writes Auxiliary concerns s here all writes = not-all concerns s here all
+not-writes Flags concerns s here all writes = not-all concerns s here all
+
 not-stores : (concerns : Concerns) (s : State) → IsUnwatched (IsIgnored concerns) s → Accesses true concerns.stores (next_access s.cpu s.words) → ⊥
 not-stores concerns s here accesses = here.ignored.stores (subst (λ (o : Option Access). Accesses true concerns.stores o) (access-there s here.runs here.inside) accesses)
 
@@ -250,6 +288,9 @@ holds-not Sends concerns es at s covers quiet fed here holds =
 holds-not (SendsByte byte) concerns es at s covers quiet fed here holds = none-some byte (sym (ap (λ (x : State). (exec x).1) fed ∙ here.silent) ∙ holds)
 holds-not (Takes kind) concerns es at s covers quiet fed here holds = quiet holds.1.index holds.1.inside holds.1.count
 holds-not Stops concerns es at s covers quiet fed here holds = holds.1 (ap (λ (x : State). (exec x).0.cpu.stop) fed ∙ here.goes_on)
+holds-not (Writes register) concerns es at s covers quiet fed here holds = not-writes register concerns s here covers holds.writes
+holds-not (Is register values) concerns es at s all quiet fed here holds = not-all concerns s here all
+holds-not (IsWord number mask values) concerns es at s all quiet fed here holds = not-all concerns s here all
 
 -- an instruction is ignored if its place, its register and its access are of no concern
 pub is_ignored : (concerns : Concerns) (pc : ℕ) (r : List ℕ) (word : ℕ) (i : Instr) (register : Option ℕ) (access : Option Access) → i ≡ instruction_of word → register ≡ written i → access ≡ accessed i r
@@ -264,16 +305,21 @@ is_ignored concerns pc r word i register access decoded writes accesses counter 
     }
 
 -- no condition holds while instructions are ignored
-pub ignored-none : (conditions : List Condition) (concerns : Concerns) (es : List Event) (at due n : ℕ) (s : State) → CoverAll concerns conditions → IsQuiet es at due → at + n ≤ due → AreUnwatched (IsIgnored concerns) n s
+pub ignored-none : (conditions : List Clause) (concerns : Concerns) (es : List Event) (at due n : ℕ) (s : State) → CoverAll concerns conditions → IsQuiet es at due → at + n ≤ due → AreUnwatched (IsIgnored concerns) n s
     → NoneIn conditions es at s at (at + n)
-ignored-none conditions concerns es at due n s covers quiet inside unwatched = λ m after before k d within holds.
+ignored-none conditions concerns es at due n s covers quiet inside unwatched = λ m after before k holds.
+    let all = all-hold conditions es _ k holds in
+    let covered = covers k all.inside all.begins_there in
+    let d : Clause = record { condition = Sends; joined = false } in
+    let c : Condition = (get_or conditions covered.index d).condition in
+    let held = (all.each covered.index covered.clause.reached covered.clause.joined).1 d in
     let steps : ℕ = m - at in
     let none = quiet m after (omega arith) in
     let x : State = run_of [] 0 steps s in
     let here = unwatched steps (omega arith) in
     let same : run_of es at steps s ≡ x = quiet-run es at steps s (quiet-fewer es at (at + steps) due quiet (omega arith)) in
-    let there = subst (λ (y : State). Holds (get_or conditions k d) es (step_from es m y)) same holds in
-    holds-not (get_or conditions k d) concerns es m x (covers k d within) none (feed-nothing es m x (fed-others es m x.devices none)) here there
+    let there = subst (λ (y : State). Holds c es (step_from es m y)) same held in
+    holds-not c concerns es m x (covered.covers d) none (feed-nothing es m x (fed-others es m x.devices none)) here there
 
 -- the state after them
 pub ignored-state : (es : List Event) (at due n : ℕ) (s t : State) → IsQuiet es at due → at + n ≤ due → t ≡ run_of [] 0 n s → t ≡ run_of es at (at + n - at) s

@@ -1,37 +1,39 @@
 -- A condition holds at a step if it is armed before the instruction and met after it, and only then.
-use Rattle.std.proofs.Common.{refl, ◌≡◌, ◌≢◌, ◌∙◌, ◌+◌, ◌*◌, ◌/◌, ◌<◌, ℕ, Bool, true, false, List, Option, None, Some, length, get_or, ap, sym, subst, inl, inr, arith, length-take}
+use Rattle.std.proofs.Common.{refl, ◌≡◌, ◌≢◌, ◌∙◌, ◌+◌, ◌*◌, ◌/◌, ◌<◌, ℕ, Bool, false, List, Option, None, Some, length, get_or, ap, sym, subst, inl, inr}
 use Rattle.std.specs.Prelude.{◌↔◌, IfNone, IfSome, IsSome, IsTrue, MatchOption}
 use Rattle.std.proofs.lemmas.Bool.{cases_eq}
-use Rattle.std.proofs.lemmas.List.{get_or-take, get_or_default}
-use Rattle.std.proofs.lemmas.Option.{none-some, slice_get-get_or}
+use Rattle.std.proofs.lemmas.List.{get_or_default}
+use Rattle.std.proofs.lemmas.Option.{none-some}
 use Rattle.risc_core.specs.Word.{bit}
 use Rattle.risc_model.specs.declared.event.Event.{Event}
 use Rattle.risc_model.specs.MachineState.{CpuState}
 use Rattle.risc_search.specs.declared.access.Access.{Access}
+use Rattle.risc_search.specs.declared.condition.Clause.{Clause}
 use Rattle.risc_search.specs.declared.condition.Condition.{Condition}
-use Rattle.risc_search.specs.declared.condition.Condition.TheVariants.{Counter, Store, Change, Load, Becomes, Sends, SendsByte, Takes, Stops}
+use Rattle.risc_search.specs.declared.condition.Condition.TheVariants.{Counter, Store, Change, Load, Becomes, Sends, SendsByte, Takes, Stops, Writes, Is, IsWord}
 use Rattle.risc_search.specs.declared.span.Span.{Span}
 use Rattle.risc_search.specs.declared.stored_word.StoredWord.{StoredWord}
 use Rattle.risc_search.specs.Access.{next_access}
 use Rattle.risc_search.specs.Changes.{Differ}
-use Rattle.risc_search.specs.Condition.{Accesses, HasInput, Holds, register_value}
+use Rattle.risc_search.specs.Clauses.{HoldsFrom}
+use Rattle.risc_search.specs.Condition.{HasInput, Holds, register_value}
 use Rattle.risc_search.specs.Search.{IsMet, NoneHolds}
 use Rattle.risc_search.specs.Span.{IsIn}
 use Rattle.risc_search.specs.Step.{Step}
 use Rattle.risc_search.specs.inner.Due.{HasKind}
-use Rattle.risc_search.specs.inner.Observed.{AreArmed, Differs, HasStoredAlone, IsAnswer, IsArmed, IsChange, IsMetAfter, IsMetAt, IsOnlyChange, word_stored}
+use Rattle.risc_search.proofs.ClauseLemmas.{all-hold, all-map, first-holds, holds-all}
+use Rattle.risc_search.specs.inner.Observed.{AreArmed, AreMetFrom, Differs, HasStoredAlone, IsAnswer, IsArmed, IsChange, IsMetAfter, IsMetAt, IsOnlyChange, word_stored}
 
 -- what is observed of a step: its parts
 pub record IsObserved
-    (access : Option Access) (taken : List Event) (cpu : CpuState) (stored : Option StoredWord) (sent : Option ℕ)
+    (taken : List Event) (cpu : CpuState) (stored : Option StoredWord) (sent : Option ℕ)
     (es : List Event) (step : Step)
     : Type 0 where
-  pub access_is : access ≡ next_access step.before.cpu step.before.words
   pub taken_is : (kind : ℕ) → HasKind kind taken ↔ HasInput kind es step.count
   pub cpu_is : cpu ≡ step.after.cpu
   pub change : IsChange step.before.words step.after.words stored
   pub sent_is : sent ≡ step.sent
-  pub there : IsSome stored → IsSome (word_stored access)
+  pub there : IsSome stored → IsSome (word_stored (next_access step.before.cpu step.before.words))
 
 -- a bit of memory differs where one of the word that was stored to does
 differ-here : (bytes : Span) (mask : ℕ) (before after : List ℕ) (word : StoredWord) → IsOnlyChange before after word → Differs bytes mask word → Differ bytes mask before after
@@ -62,49 +64,70 @@ differs-here bytes mask before after word change d =
       | inr other ↦ absurd (d.differs (ap (λ (w : ℕ). bit w d.index) (sym (change.others d.word other))))
     ]
 
-pub holds-of : (condition : Condition) (access : Option Access) (taken : List Event) (cpu : CpuState) (stored : Option StoredWord) (sent : Option ℕ) (es : List Event) (step : Step)
-    → IsObserved access taken cpu stored sent es step → IsArmed condition step.before.cpu access taken → IsMetAfter condition cpu stored sent → Holds condition es step
-holds-of (Counter words) access taken cpu stored sent es step o armed met = armed
-holds-of (Store bytes) access taken cpu stored sent es step o armed met = subst (λ (a : Option Access). Accesses true bytes a) o.access_is armed
-holds-of (Change bytes mask) access taken cpu None sent es step o armed met = absurd met
-holds-of (Change bytes mask) access taken cpu (Some word) sent es step o armed met = differ-here bytes mask step.before.words step.after.words word o.change met
-holds-of (Load bytes) access taken cpu stored sent es step o armed met = subst (λ (a : Option Access). Accesses false bytes a) o.access_is armed
-holds-of (Becomes register value) access taken cpu stored sent es step o armed met = record { was_not = armed; is = ap (λ (c : CpuState). register_value register c) (sym o.cpu_is) ∙ met }
-holds-of Sends access taken cpu stored sent es step o armed met = subst (λ (s : Option ℕ). IsSome s) o.sent_is met
-holds-of (SendsByte byte) access taken cpu stored sent es step o armed met = sym o.sent_is ∙ met
-holds-of (Takes kind) access taken cpu stored sent es step o armed met = (armed.0, (o.taken_is kind).0 armed.1)
-holds-of Stops access taken cpu stored sent es step o armed met = (armed, λ same. met (ap (λ (c : CpuState). c.stop) o.cpu_is ∙ same))
+pub holds-of : (condition : Condition) (taken : List Event) (cpu : CpuState) (stored : Option StoredWord) (sent : Option ℕ) (es : List Event) (step : Step)
+    → IsObserved taken cpu stored sent es step → IsArmed condition step.before taken → IsMetAfter condition cpu stored sent → Holds condition es step
+holds-of (Counter words) taken cpu stored sent es step o armed met = armed
+holds-of (Store bytes) taken cpu stored sent es step o armed met = armed
+holds-of (Change bytes mask) taken cpu None sent es step o armed met = absurd met
+holds-of (Change bytes mask) taken cpu (Some word) sent es step o armed met = differ-here bytes mask step.before.words step.after.words word o.change met
+holds-of (Load bytes) taken cpu stored sent es step o armed met = armed
+holds-of (Becomes register value) taken cpu stored sent es step o armed met = record { was_not = armed; is = ap (λ (c : CpuState). register_value register c) (sym o.cpu_is) ∙ met }
+holds-of Sends taken cpu stored sent es step o armed met = subst (λ (s : Option ℕ). IsSome s) o.sent_is met
+holds-of (SendsByte byte) taken cpu stored sent es step o armed met = sym o.sent_is ∙ met
+holds-of (Takes kind) taken cpu stored sent es step o armed met = (armed.0, (o.taken_is kind).0 armed.1)
+holds-of Stops taken cpu stored sent es step o armed met = (armed, λ same. met (ap (λ (c : CpuState). c.stop) o.cpu_is ∙ same))
+holds-of (Writes register) taken cpu stored sent es step o armed met = record { writes = armed; goes_on = ap (λ (c : CpuState). c.stop) (sym o.cpu_is) ∙ met }
+holds-of (Is register values) taken cpu stored sent es step o armed met = armed
+holds-of (IsWord number mask values) taken cpu stored sent es step o armed met = armed
 
 change-met : (bytes : Span) (mask : ℕ) (before after : List ℕ) (access : Option Access) (stored : Option StoredWord) → IsChange before after stored → (IsSome stored → IsSome (word_stored access)) → Differ bytes mask before after
     → IsSome (word_stored access) × MatchOption stored ⊥ (Differs bytes mask)
 change-met bytes mask before after access None change there d = absurd (d.differs (ap (λ (w : ℕ). bit w d.index) (sym (change d.word))))
 change-met bytes mask before after access (Some word) change there d = (there refl, differs-here bytes mask before after word change d)
 
-pub parts-of : (condition : Condition) (access : Option Access) (taken : List Event) (cpu : CpuState) (stored : Option StoredWord) (sent : Option ℕ) (es : List Event) (step : Step)
-    → IsObserved access taken cpu stored sent es step → Holds condition es step → IsArmed condition step.before.cpu access taken × IsMetAfter condition cpu stored sent
-parts-of (Counter words) access taken cpu stored sent es step o holds = (holds, tt)
-parts-of (Store bytes) access taken cpu stored sent es step o holds = (subst (λ (a : Option Access). Accesses true bytes a) (sym o.access_is) holds, tt)
-parts-of (Change bytes mask) access taken cpu stored sent es step o holds = change-met bytes mask step.before.words step.after.words access stored o.change o.there holds
-parts-of (Load bytes) access taken cpu stored sent es step o holds = (subst (λ (a : Option Access). Accesses false bytes a) (sym o.access_is) holds, tt)
-parts-of (Becomes register value) access taken cpu stored sent es step o holds = (holds.was_not, ap (λ (c : CpuState). register_value register c) o.cpu_is ∙ holds.is)
-parts-of Sends access taken cpu stored sent es step o holds = (tt, subst (λ (s : Option ℕ). IsSome s) (sym o.sent_is) holds)
-parts-of (SendsByte byte) access taken cpu stored sent es step o holds = (tt, o.sent_is ∙ holds)
-parts-of (Takes kind) access taken cpu stored sent es step o holds = ((holds.0, (o.taken_is kind).1 holds.1), tt)
-parts-of Stops access taken cpu stored sent es step o holds = (holds.0, λ same. holds.1 (ap (λ (c : CpuState). c.stop) (sym o.cpu_is) ∙ same))
+pub parts-of : (condition : Condition) (taken : List Event) (cpu : CpuState) (stored : Option StoredWord) (sent : Option ℕ) (es : List Event) (step : Step)
+    → IsObserved taken cpu stored sent es step → Holds condition es step → IsArmed condition step.before taken × IsMetAfter condition cpu stored sent
+parts-of (Counter words) taken cpu stored sent es step o holds = (holds, tt)
+parts-of (Store bytes) taken cpu stored sent es step o holds = (holds, tt)
+parts-of (Change bytes mask) taken cpu stored sent es step o holds = change-met bytes mask step.before.words step.after.words (next_access step.before.cpu step.before.words) stored o.change o.there holds
+parts-of (Load bytes) taken cpu stored sent es step o holds = (holds, tt)
+parts-of (Becomes register value) taken cpu stored sent es step o holds = (holds.was_not, ap (λ (c : CpuState). register_value register c) o.cpu_is ∙ holds.is)
+parts-of Sends taken cpu stored sent es step o holds = (tt, subst (λ (s : Option ℕ). IsSome s) (sym o.sent_is) holds)
+parts-of (SendsByte byte) taken cpu stored sent es step o holds = (tt, o.sent_is ∙ holds)
+parts-of (Takes kind) taken cpu stored sent es step o holds = ((holds.0, (o.taken_is kind).1 holds.1), tt)
+parts-of Stops taken cpu stored sent es step o holds = (holds.0, λ same. holds.1 (ap (λ (c : CpuState). c.stop) (sym o.cpu_is) ∙ same))
+parts-of (Writes register) taken cpu stored sent es step o holds = (holds.writes, ap (λ (c : CpuState). c.stop) o.cpu_is ∙ holds.goes_on)
+parts-of (Is register values) taken cpu stored sent es step o holds = (holds, tt)
+parts-of (IsWord number mask values) taken cpu stored sent es step o holds = (holds, tt)
 
 -- ---- the conditions of a list
 
+any : Clause
+any = record { condition = Sends; joined = false }
+
 -- what holds at an index is armed and met there
-met-there : (conditions : List Condition) (armed : List Bool) (access : Option Access) (taken : List Event) (cpu : CpuState) (stored : Option StoredWord) (sent : Option ℕ) (es : List Event) (step : Step) (k : ℕ) (d : Condition)
-    → AreArmed conditions step.before.cpu access taken armed → IsObserved access taken cpu stored sent es step → k < length conditions → Holds (get_or conditions k d) es step → IsMetAt conditions armed cpu stored sent k
-met-there conditions armed access taken cpu stored sent es step k d are o inside holds = λ e.
+met-there : (conditions : List Clause) (armed : List Bool) (taken : List Event) (cpu : CpuState) (stored : Option StoredWord) (sent : Option ℕ) (es : List Event) (step : Step) (k : ℕ) (d : Clause)
+    → AreArmed conditions step.before taken armed → IsObserved taken cpu stored sent es step → k < length conditions → Holds (get_or conditions k d).condition es step → IsMetAt conditions armed cpu stored sent k
+met-there conditions armed taken cpu stored sent es step k d are o inside holds = λ e.
     let same : get_or conditions k d ≡ get_or conditions k e = get_or_default conditions k d e inside in
-    let parts = parts-of (get_or conditions k e) access taken cpu stored sent es step o (subst (λ (c : Condition). Holds c es step) same holds) in
+    let parts = parts-of (get_or conditions k e).condition taken cpu stored sent es step o (subst (λ (c : Clause). Holds c.condition es step) same holds) in
     ((are k e inside).1 parts.0, parts.1)
 
-pub none-met : (conditions : List Condition) (armed : List Bool) (access : Option Access) (taken : List Event) (cpu : CpuState) (stored : Option StoredWord) (sent : Option ℕ) (es : List Event) (step : Step)
-    → AreArmed conditions step.before.cpu access taken armed → IsObserved access taken cpu stored sent es step → ((k : ℕ) → k < length conditions → ¬ (IsMetAt conditions armed cpu stored sent k)) → NoneHolds conditions es step
-none-met conditions armed access taken cpu stored sent es step are o none = λ k d inside holds. none k inside (met-there conditions armed access taken cpu stored sent es step k d are o inside holds)
+-- a condition that holds is met
+met-from : (conditions : List Clause) (armed : List Bool) (taken : List Event) (cpu : CpuState) (stored : Option StoredWord) (sent : Option ℕ) (es : List Event) (step : Step) (first : ℕ)
+    → AreArmed conditions step.before taken armed → IsObserved taken cpu stored sent es step → HoldsFrom conditions es step first → AreMetFrom conditions armed cpu stored sent first
+met-from conditions armed taken cpu stored sent es step first are o holds =
+    all-map conditions _ _ first (λ k inside held. met-there conditions armed taken cpu stored sent es step k any are o inside (held any)) (all-hold conditions es step first holds)
+
+-- and one that is met holds
+holds-from : (conditions : List Clause) (armed : List Bool) (taken : List Event) (cpu : CpuState) (stored : Option StoredWord) (sent : Option ℕ) (es : List Event) (step : Step) (first : ℕ)
+    → AreArmed conditions step.before taken armed → IsObserved taken cpu stored sent es step → AreMetFrom conditions armed cpu stored sent first → HoldsFrom conditions es step first
+holds-from conditions armed taken cpu stored sent es step first are o met =
+    holds-all conditions es step first (all-map conditions _ _ first (λ k inside here d. holds-of (get_or conditions k d).condition taken cpu stored sent es step o ((are k d inside).0 (here d).0) (here d).1) met)
+
+none-met : (conditions : List Clause) (armed : List Bool) (taken : List Event) (cpu : CpuState) (stored : Option StoredWord) (sent : Option ℕ) (es : List Event) (step : Step)
+    → AreArmed conditions step.before taken armed → IsObserved taken cpu stored sent es step → ((k : ℕ) → k < length conditions → ¬ (AreMetFrom conditions armed cpu stored sent k)) → NoneHolds conditions es step
+none-met conditions armed taken cpu stored sent es step are o none = λ k holds. none k holds.inside (met-from conditions armed taken cpu stored sent es step k are o holds)
 
 -- an instruction that changes a word stores to it
 some-stored : (o : Option ℕ) (bytes : Span) (mask : ℕ) (before after : List ℕ) → ((w : ℕ) → o ≢ Some w → get_or after w 0 ≡ get_or before w 0) → Differ bytes mask before after → IsSome o
@@ -112,42 +135,40 @@ some-stored None bytes mask before after same d = absurd (d.differs (ap (λ (w :
 some-stored (Some w) bytes mask before after same d = refl
 
 -- what holds is armed, whatever is known after the instruction
-armed-of : (condition : Condition) (access : Option Access) (taken : List Event) (es : List Event) (step : Step)
-    → access ≡ next_access step.before.cpu step.before.words → ((kind : ℕ) → HasKind kind taken ↔ HasInput kind es step.count) → HasStoredAlone access step.before.words step.after.words
-    → Holds condition es step → IsArmed condition step.before.cpu access taken
-armed-of (Counter words) access taken es step is taken_is alone holds = holds
-armed-of (Store bytes) access taken es step is taken_is alone holds = subst (λ (a : Option Access). Accesses true bytes a) (sym is) holds
-armed-of (Change bytes mask) access taken es step is taken_is alone holds = some-stored (word_stored access) bytes mask step.before.words step.after.words alone holds
-armed-of (Load bytes) access taken es step is taken_is alone holds = subst (λ (a : Option Access). Accesses false bytes a) (sym is) holds
-armed-of (Becomes register value) access taken es step is taken_is alone holds = holds.was_not
-armed-of Sends access taken es step is taken_is alone holds = tt
-armed-of (SendsByte byte) access taken es step is taken_is alone holds = tt
-armed-of (Takes kind) access taken es step is taken_is alone holds = (holds.0, (taken_is kind).1 holds.1)
-armed-of Stops access taken es step is taken_is alone holds = holds.0
+armed-of : (condition : Condition) (taken : List Event) (es : List Event) (step : Step)
+    → ((kind : ℕ) → HasKind kind taken ↔ HasInput kind es step.count) → HasStoredAlone (next_access step.before.cpu step.before.words) step.before.words step.after.words
+    → Holds condition es step → IsArmed condition step.before taken
+armed-of (Counter words) taken es step taken_is alone holds = holds
+armed-of (Store bytes) taken es step taken_is alone holds = holds
+armed-of (Change bytes mask) taken es step taken_is alone holds = some-stored (word_stored (next_access step.before.cpu step.before.words)) bytes mask step.before.words step.after.words alone holds
+armed-of (Load bytes) taken es step taken_is alone holds = holds
+armed-of (Becomes register value) taken es step taken_is alone holds = holds.was_not
+armed-of Sends taken es step taken_is alone holds = tt
+armed-of (SendsByte byte) taken es step taken_is alone holds = tt
+armed-of (Takes kind) taken es step taken_is alone holds = (holds.0, (taken_is kind).1 holds.1)
+armed-of Stops taken es step taken_is alone holds = holds.0
+armed-of (Writes register) taken es step taken_is alone holds = holds.writes
+armed-of (Is register values) taken es step taken_is alone holds = holds
+armed-of (IsWord number mask values) taken es step taken_is alone holds = holds
 
 -- none is armed, so none holds
-pub none-armed : (conditions : List Condition) (armed : List Bool) (access : Option Access) (taken : List Event) (es : List Event) (step : Step)
-    → AreArmed conditions step.before.cpu access taken armed → access ≡ next_access step.before.cpu step.before.words → ((kind : ℕ) → HasKind kind taken ↔ HasInput kind es step.count)
-    → HasStoredAlone access step.before.words step.after.words → ((k : ℕ) → k < length conditions → ¬ (IsTrue (get_or armed k false))) → NoneHolds conditions es step
-none-armed conditions armed access taken es step are is taken_is alone none = λ k d inside holds.
-    none k inside ((are k d inside).1 (armed-of (get_or conditions k d) access taken es step is taken_is alone holds))
+pub none-armed : (conditions : List Clause) (armed : List Bool) (taken : List Event) (es : List Event) (step : Step)
+    → AreArmed conditions step.before taken armed → ((kind : ℕ) → HasKind kind taken ↔ HasInput kind es step.count)
+    → HasStoredAlone (next_access step.before.cpu step.before.words) step.before.words step.after.words → ((k : ℕ) → k < length conditions → ¬ (IsTrue (get_or armed k false))) → NoneHolds conditions es step
+none-armed conditions armed taken es step are taken_is alone none = λ k holds.
+    none k holds.inside ((are k any holds.inside).1 (armed-of (get_or conditions k any).condition taken es step taken_is alone (first-holds conditions es step k any holds)))
 
-pub first-is_met : (conditions : List Condition) (armed : List Bool) (access : Option Access) (taken : List Event) (cpu : CpuState) (stored : Option StoredWord) (sent : Option ℕ) (es : List Event) (step : Step) (index : ℕ)
-    → AreArmed conditions step.before.cpu access taken armed → IsObserved access taken cpu stored sent es step → index < length conditions → IsMetAt conditions armed cpu stored sent index
-    → ((k : ℕ) → k < index → ¬ (IsMetAt conditions armed cpu stored sent k)) → IsMet conditions es step index
-first-is_met conditions armed access taken cpu stored sent es step index are o inside met least = record {
-  condition = get_or conditions index Sends;
-  at = slice_get-get_or conditions index Sends inside;
-  holds = holds-of (get_or conditions index Sends) access taken cpu stored sent es step o ((are index Sends inside).0 (met Sends).0) (met Sends).1;
-  least = λ k d below holds.
-      let before : k < index = omega (arith, below, length-take index conditions) in
-      let there : k < length conditions = omega (arith, before, inside) in
-      least k before (met-there conditions armed access taken cpu stored sent es step k d are o there (subst (λ (c : Condition). Holds c es step) (get_or-take index conditions k d before) holds));
+pub first-is_met : (conditions : List Clause) (armed : List Bool) (taken : List Event) (cpu : CpuState) (stored : Option StoredWord) (sent : Option ℕ) (es : List Event) (step : Step) (index : ℕ)
+    → AreArmed conditions step.before taken armed → IsObserved taken cpu stored sent es step → AreMetFrom conditions armed cpu stored sent index
+    → ((k : ℕ) → k < index → ¬ (AreMetFrom conditions armed cpu stored sent k)) → IsMet conditions es step index
+first-is_met conditions armed taken cpu stored sent es step index are o met least = record {
+  holds = holds-from conditions armed taken cpu stored sent es step index are o met;
+  least = λ k below holds. least k below (met-from conditions armed taken cpu stored sent es step k are o holds);
 }
 
 -- what the tests of a step answer
-pub is_answer : (conditions : List Condition) (armed : List Bool) (access : Option Access) (taken : List Event) (cpu : CpuState) (stored : Option StoredWord) (sent : Option ℕ) (es : List Event) (step : Step) (met : Option ℕ)
-    → AreArmed conditions step.before.cpu access taken armed → IsObserved access taken cpu stored sent es step → IfSome met (λ index. index < length conditions) → IfSome met (IsMetAt conditions armed cpu stored sent)
-    → IfSome met (λ index. (k : ℕ) → k < index → ¬ (IsMetAt conditions armed cpu stored sent k)) → IfNone met ((k : ℕ) → k < length conditions → ¬ (IsMetAt conditions armed cpu stored sent k)) → IsAnswer conditions es step met
-is_answer conditions armed access taken cpu stored sent es step None are o inside there least none = none-met conditions armed access taken cpu stored sent es step are o none
-is_answer conditions armed access taken cpu stored sent es step (Some index) are o inside there least none = first-is_met conditions armed access taken cpu stored sent es step index are o inside there least
+pub is_answer : (conditions : List Clause) (armed : List Bool) (taken : List Event) (cpu : CpuState) (stored : Option StoredWord) (sent : Option ℕ) (es : List Event) (step : Step) (met : Option ℕ)
+    → AreArmed conditions step.before taken armed → IsObserved taken cpu stored sent es step → IfSome met (AreMetFrom conditions armed cpu stored sent)
+    → IfSome met (λ index. (k : ℕ) → k < index → ¬ (AreMetFrom conditions armed cpu stored sent k)) → IfNone met ((k : ℕ) → k < length conditions → ¬ (AreMetFrom conditions armed cpu stored sent k)) → IsAnswer conditions es step met
+is_answer conditions armed taken cpu stored sent es step None are o there least none = none-met conditions armed taken cpu stored sent es step are o none
+is_answer conditions armed taken cpu stored sent es step (Some index) are o there least none = first-is_met conditions armed taken cpu stored sent es step index are o there least

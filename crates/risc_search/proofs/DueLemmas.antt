@@ -5,7 +5,7 @@ use Rattle.std.proofs.lemmas.Bool.{cases_lt}
 use Rattle.std.proofs.lemmas.List.{get_or-map, get_or-take, get_or-drop, take-map, drop-map}
 use Rattle.risc_devices.specs.Input.{kind_of}
 use Rattle.risc_model.specs.declared.event.Event.{Event}
-use Rattle.risc_model.specs.InputOrder.{IsNextAt, count_at}
+use Rattle.risc_model.specs.InputOrder.{IsNextAt}
 use Rattle.risc_search.specs.Condition.{HasInput, kind_at}
 use Rattle.risc_search.specs.inner.Due.{HasKind, IsQuiet}
 

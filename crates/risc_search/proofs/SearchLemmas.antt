@@ -1,7 +1,9 @@
 -- How far a search is and where it ends, and that nothing holds once the machine has stopped.
-use Rattle.std.proofs.Common.{◌≡◌, ◌≢◌, ◌∙◌, ◌+◌, ◌-◌, ◌<◌, ◌≤◌, ℕ, false, List, Option, None, Some, nat_eq, refl, ap, sym, subst, inl, inr, arith}
+use Rattle.std.proofs.Common.{◌≡◌, ◌≢◌, ◌∙◌, ◌+◌, ◌-◌, ◌<◌, ◌≤◌, ◌^◌, ℕ, Bool, false, cond, nat_lt, get_or, List, Option, None, Some, nat_eq, refl, ap, sym, subst, inl, inr, arith}
+use Rattle.std.specs.Prelude.{◌&&◌}
 use Rattle.std.proofs.lemmas.Bool.{cases_eq, cases_lt}
 use Rattle.std.proofs.lemmas.Option.{none-some}
+use Rattle.risc_core.specs.Instruction.{instruction_of}
 use Rattle.risc_model.specs.declared.event.Event.{Event}
 use Rattle.risc_model.specs.MachineState.{State}
 use Rattle.risc_model.specs.Exec.{exec}
@@ -9,19 +11,19 @@ use Rattle.risc_model.specs.Replay.{feed, run_of}
 use Rattle.risc_model.proofs.LawLemmas.{run_of-on}
 use Rattle.risc_model.proofs.RunLemmas.{exec-stopped, feed-stopped, run_of-over}
 use Rattle.risc_search.specs.declared.access.Access.{Access}
+use Rattle.risc_search.specs.declared.condition.Clause.{Clause}
 use Rattle.risc_search.specs.declared.condition.Condition.{Condition}
-use Rattle.risc_search.specs.declared.condition.Condition.TheVariants.{Counter, Store, Change, Load, Becomes, Sends, SendsByte, Takes, Stops}
+use Rattle.risc_search.specs.declared.condition.Condition.TheVariants.{Counter, Store, Change, Load, Becomes, Sends, SendsByte, Takes, Stops, Writes, Is, IsWord}
 use Rattle.risc_search.specs.declared.hit.Hit.{Hit}
-use Rattle.risc_search.specs.declared.search.Wanted.{Wanted}
-use Rattle.risc_search.specs.declared.search.Wanted.TheVariants.{First, Last}
-use Rattle.risc_search.specs.Access.{next_access}
-use Rattle.risc_search.specs.Condition.{Holds}
-use Rattle.risc_search.specs.Search.{IsFirst, IsLast, IsMet, NoneHolds, NoneIn, count_after}
+use Rattle.risc_search.specs.declared.register.Register.{Register}
+use Rattle.risc_search.specs.Access.{next_access, next_instruction}
+use Rattle.risc_search.specs.Condition.{Holds, IsNextWriting}
+use Rattle.risc_search.specs.Search.{IsFirst, IsHit, IsLast, IsMet, NoneHolds, NoneIn}
 use Rattle.risc_search.specs.Step.{Step, step_at, step_from}
-use Rattle.risc_search.specs.inner.Wanted.{end_of}
+use Rattle.risc_search.proofs.ClauseLemmas.{first-holds}
 
 -- the counts up to one more
-pub none-more : (conditions : List Condition) (es : List Event) (from : ℕ) (s : State) (low at : ℕ) → NoneIn conditions es from s low at → NoneHolds conditions es (step_at es from s at) → NoneIn conditions es from s low (at + 1)
+pub none-more : (conditions : List Clause) (es : List Event) (from : ℕ) (s : State) (low at : ℕ) → NoneIn conditions es from s low at → NoneHolds conditions es (step_at es from s at) → NoneIn conditions es from s low (at + 1)
 none-more conditions es from s low at before here = λ n after inside.
     elim (cases_eq n at) [
       | inl same ↦ let P : ℕ → Type 0 = λ (m : ℕ). NoneHolds conditions es (step_at es from s m) in subst P (sym same) here
@@ -39,7 +41,7 @@ run-on es from at to s t reached later is =
     ∙ ap (λ (k : ℕ). run_of es from k s) whole
 
 -- the counts up to one, and those from there on
-none-both : (conditions : List Condition) (es : List Event) (from : ℕ) (s : State) (low at high : ℕ) → NoneIn conditions es from s low at → NoneIn conditions es from s at high → NoneIn conditions es from s low high
+pub none-both : (conditions : List Clause) (es : List Event) (from : ℕ) (s : State) (low at high : ℕ) → NoneIn conditions es from s low at → NoneIn conditions es from s at high → NoneIn conditions es from s low high
 none-both conditions es from s low at high before rest = λ n after inside.
     elim (cases_lt n at) [
       | inl less ↦ before n after less
@@ -51,37 +53,65 @@ pub step-on : (es : List Event) (from at n : ℕ) (s t : State) → from ≤ at 
 step-on es from at n s t reached later is = ap (λ (x : State). step_from es n x) (run-on es from at n s t reached later is)
 
 -- and so is what holds at it
-pub none-from : (conditions : List Condition) (es : List Event) (from at high : ℕ) (s t : State) → from ≤ at → t ≡ run_of es from (at - from) s → NoneIn conditions es at t at high → NoneIn conditions es from s at high
-none-from conditions es from at high s t reached is none = λ n after inside.
+pub none-within : (conditions : List Clause) (es : List Event) (from at low high : ℕ) (s t : State) → from ≤ at → at ≤ low → t ≡ run_of es from (at - from) s → NoneIn conditions es at t low high → NoneIn conditions es from s low high
+none-within conditions es from at low high s t reached later is none = λ n after inside.
     let P : Step → Type 0 = λ (step : Step). NoneHolds conditions es step in
-    subst P (step-on es from at n s t reached after is) (none n after inside)
+    subst P (step-on es from at n s t reached (omega (arith, later, after)) is) (none n after inside)
 
--- steps more at which no condition holds
-pub last-more : (conditions : List Condition) (es : List Event) (from at to : ℕ) (s : State) (found : Option Hit) → at ≤ to → IsLast conditions es from at s found → NoneIn conditions es from s at to → IsLast conditions es from to s found
-last-more conditions es from at to s None more before rest = none-both conditions es from s from at to before rest
-last-more conditions es from at to s (Some hit) more before rest =
-    (record { reached = before.0.reached; inside = omega (arith, before.0.inside); met = before.0.met }, none-both conditions es from s (hit.count + 1) at to before.1 rest)
-
--- steps more, at whose last one holds
-pub last-here : (conditions : List Condition) (es : List Event) (from at to : ℕ) (s : State) (index : ℕ) → from ≤ at → at < to → IsMet conditions es (step_at es from s (to - 1)) index → IsLast conditions es from to s (Some (record { count = to - 1; condition = index }))
-last-here conditions es from at to s index reached more met = (record { reached = omega arith; inside = omega arith; met = met }, λ n after inside. absurd (omega arith))
+pub none-from : (conditions : List Clause) (es : List Event) (from at high : ℕ) (s t : State) → from ≤ at → t ≡ run_of es from (at - from) s → NoneIn conditions es at t at high → NoneIn conditions es from s at high
+none-from conditions es from at high s t reached is none = none-within conditions es from at at high s t reached (omega arith) is none
 
 -- the first step at which one holds
-pub first-here : (conditions : List Condition) (es : List Event) (from at end to : ℕ) (s : State) (index : ℕ) (found : Option Hit) → from ≤ at → at < end → end ≤ to → found ≡ None → IsLast conditions es from at s found
+pub first-here : (conditions : List Clause) (es : List Event) (from at end to : ℕ) (s : State) (index : ℕ) → from ≤ at → at < end → end ≤ to → NoneIn conditions es from s from at
     → NoneIn conditions es from s at (end - 1) → IsMet conditions es (step_at es from s (end - 1)) index → IsFirst conditions es from to s (Some (record { count = end - 1; condition = index }))
-first-here conditions es from at end to s index found reached more inside none before rest met =
-    let P : Option Hit → Type 0 = λ (h : Option Hit). IsLast conditions es from at s h in
-    (record { reached = omega arith; inside = omega arith; met = met }, none-both conditions es from s from at (end - 1) (subst P none before) rest)
+first-here conditions es from at end to s index reached more inside before rest met =
+    (record { reached = omega arith; inside = omega arith; met = met }, none-both conditions es from s from at (end - 1) before rest)
 
--- none of them is the first and the last
-pub first-none : (conditions : List Condition) (es : List Event) (from to : ℕ) (s : State) (found : Option Hit) → found ≡ None → IsLast conditions es from to s found → IsFirst conditions es from to s found
-first-none conditions es from to s None none last = last
-first-none conditions es from to s (Some hit) none last = absurd (none-some hit (sym none))
+-- ---- searches that go on from a hit
+
+-- a search for the same conditions, with the same inputs
+pub first-same : (cs conditions : List Clause) (is es : List Event) (from to : ℕ) (s : State) (found : Option Hit) → cs ≡ conditions → is ≡ es → IsFirst cs is from to s found → IsFirst conditions es from to s found
+first-same cs conditions is es from to s found alike same first =
+    subst (λ (xs : List Event). IsFirst conditions xs from to s found) same (subst (λ (xs : List Clause). IsFirst xs is from to s found) alike first)
+
+-- where it goes on to
+pub state-next : (is es : List Event) (from at next : ℕ) (s t u : State) → is ≡ es → from ≤ at → at ≤ next → t ≡ run_of es from (at - from) s → u ≡ run_of is at (next - at) t → u ≡ run_of es from (next - from) s
+state-next is es from at next s t u same reached later before state =
+    state ∙ ap (λ (xs : List Event). run_of xs at (next - at) t) same ∙ run-on es from at next s t reached later before
+
+-- what holds at a step of a run that goes on holds at it of the whole
+pub hit-from : (conditions : List Clause) (es : List Event) (from at to : ℕ) (s t : State) (hit : Hit) → from ≤ at → t ≡ run_of es from (at - from) s → IsHit conditions es at to t hit → IsHit conditions es from to s hit
+hit-from conditions es from at to s t hit reached is found = record {
+  reached = omega (arith, reached, found.reached);
+  inside = found.inside;
+  met = subst (λ (step : Step). IsMet conditions es step hit.condition) (step-on es from at hit.count s t reached found.reached is) found.met;
+}
+
+-- the last count so far, and none after it
+pub last-more : (conditions : List Clause) (es : List Event) (from at to : ℕ) (s t : State) (found : Option Hit) → from ≤ at → at ≤ to → t ≡ run_of es from (at - from) s → IsLast conditions es from at s found → NoneIn conditions es at t at to → IsLast conditions es from to s found
+last-more conditions es from at to s t None reached more is before rest = none-both conditions es from s from at to before (none-from conditions es from at to s t reached is rest)
+last-more conditions es from at to s t (Some hit) reached more is before rest = (
+  record { reached = before.0.reached; inside = omega (arith, before.0.inside, more); met = before.0.met },
+  none-both conditions es from s (hit.count + 1) at to before.1 (none-from conditions es from at to s t reached is rest),
+)
+
+-- a count after it
+pub last-hit : (conditions : List Clause) (es : List Event) (from at to : ℕ) (s t : State) (hit : Hit) → from ≤ at → t ≡ run_of es from (at - from) s → IsHit conditions es at to t hit → IsLast conditions es from (hit.count + 1) s (Some hit)
+last-hit conditions es from at to s t hit reached is found =
+    let here = hit-from conditions es from at to s t hit reached is found in
+    (record { reached = here.reached; inside = omega arith; met = here.met }, λ n after inside. absurd (omega (arith, after, inside)))
 
 -- a stopped machine accesses nothing
 stopped-access : (t : State) (access : Access) → nat_eq t.cpu.stop 0 ≡ false → next_access t.cpu t.words ≡ Some access → ⊥
 unfolding next_access
 stopped-access t access stopped is = none-some access (rw stopped at is)
+
+-- and writes no register
+stopped-writes : (register : Register) (t : State) → nat_eq t.cpu.stop 0 ≡ false → IsNextWriting register t.cpu (next_instruction t.cpu t.words) → ⊥
+unfolding next_instruction
+stopped-writes register t stopped writes =
+    let P : Bool → Type 0 = λ (b : Bool). IsNextWriting register t.cpu (cond (b && nat_lt t.cpu.pc (2 ^ 18)) (Some (instruction_of (get_or t.words t.cpu.pc 0))) None) in
+    subst P stopped writes
 
 runs-not : (t : State) → nat_eq t.cpu.stop 0 ≡ false → t.cpu.stop ≡ 0 → ⊥
 runs-not t stopped runs = search (arith, stopped, runs)
@@ -97,46 +127,33 @@ stopped-holds Sends es n t stopped holds = search (arith, holds)
 stopped-holds (SendsByte byte) es n t stopped holds = none-some byte holds
 stopped-holds (Takes kind) es n t stopped holds = runs-not t stopped holds.0
 stopped-holds Stops es n t stopped holds = runs-not t stopped holds.0
+stopped-holds (Writes register) es n t stopped holds = stopped-writes register t stopped holds.writes
+stopped-holds (Is register values) es n t stopped holds = runs-not t stopped holds.0
+stopped-holds (IsWord number mask values) es n t stopped holds = runs-not t stopped holds.0
 
 stopped-step : (es : List Event) (n : ℕ) (t : State) → nat_eq t.cpu.stop 0 ≡ false → step_from es n t ≡ record { count = n; before = t; after = t; sent = None }
 stopped-step es n t stopped =
     let same : exec (feed es n t) ≡ (t, None) = ap (λ (x : State). exec x) (feed-stopped es n t stopped) ∙ exec-stopped t stopped in
     ap (λ (o : State × Option ℕ). record { count = n; before = t; after = o.0; sent = o.1 }) same
 
-none-stopped : (conditions : List Condition) (es : List Event) (n : ℕ) (t : State) → nat_eq t.cpu.stop 0 ≡ false → NoneHolds conditions es (step_from es n t)
+none-stopped : (conditions : List Clause) (es : List Event) (n : ℕ) (t : State) → nat_eq t.cpu.stop 0 ≡ false → NoneHolds conditions es (step_from es n t)
 none-stopped conditions es n t stopped =
     let P : Step → Type 0 = λ (step : Step). NoneHolds conditions es step in
-    subst P (sym (stopped-step es n t stopped)) (λ k d inside holds. stopped-holds _ es n t stopped holds)
+    subst P (sym (stopped-step es n t stopped)) (λ k holds. stopped-holds _ es n t stopped (first-holds conditions es _ k (record { condition = Sends; joined = false }) holds))
 
 -- from where it stopped on
-pub none-later : (conditions : List Condition) (es : List Event) (from at : ℕ) (s t : State) → from ≤ at → t ≡ run_of es from (at - from) s → nat_eq t.cpu.stop 0 ≡ false → (n : ℕ) → at ≤ n → NoneHolds conditions es (step_at es from s n)
+pub none-later : (conditions : List Clause) (es : List Event) (from at : ℕ) (s t : State) → from ≤ at → t ≡ run_of es from (at - from) s → nat_eq t.cpu.stop 0 ≡ false → (n : ℕ) → at ≤ n → NoneHolds conditions es (step_at es from s n)
 none-later conditions es from at s t reached is stopped n later =
     let P : State → Type 0 = λ (x : State). NoneHolds conditions es (step_from es n x) in
     subst P (run_of-over es from at n s t reached later is stopped) (none-stopped conditions es n t stopped)
 
-none-on : (conditions : List Condition) (es : List Event) (from : ℕ) (s : State) (low at to : ℕ) → NoneIn conditions es from s low at → ((n : ℕ) → at ≤ n → NoneHolds conditions es (step_at es from s n)) → NoneIn conditions es from s low to
+pub none-on : (conditions : List Clause) (es : List Event) (from : ℕ) (s : State) (low at to : ℕ) → NoneIn conditions es from s low at → ((n : ℕ) → at ≤ n → NoneHolds conditions es (step_at es from s n)) → NoneIn conditions es from s low to
 none-on conditions es from s low at to before later = λ n after inside.
     elim (cases_lt n at) [
       | inl less ↦ before n after less
       | inr more ↦ later n more
     ]
 
--- what was found where it stopped is found of the whole run
-pub last-stopped : (conditions : List Condition) (es : List Event) (from at to : ℕ) (s : State) (found : Option Hit) → at ≤ to → IsLast conditions es from at s found → ((n : ℕ) → at ≤ n → NoneHolds conditions es (step_at es from s n)) → IsLast conditions es from to s found
-last-stopped conditions es from at to s None within before later = none-on conditions es from s from at to before later
-last-stopped conditions es from at to s (Some hit) within before later =
-    (record { reached = before.0.reached; inside = omega (arith, before.0.inside); met = before.0.met }, none-on conditions es from s (hit.count + 1) at to before.1 later)
-
 -- the step of a machine that has come so far
 pub step-here : (es : List Event) (from at : ℕ) (s t : State) → t ≡ run_of es from (at - from) s → step_from es at t ≡ step_at es from s at
 step-here es from at s t is = ap (λ (x : State). step_from es at x) is
-
--- a search for the first count ends after its step
-pub end-here : (wanted : Wanted) (to p index : ℕ) → wanted ≢ Last → 0 < p → end_of wanted to (Some (record { count = p - 1; condition = index })) ≡ p
-end-here First to p index not some = omega (arith, some)
-end-here Last to p index not some = absurd (not refl)
-
--- a search that found nothing, or looks for the last count, ends with the range
-pub end-whole : (wanted : Wanted) (to : ℕ) (found : Option Hit) → (wanted ≡ First → found ≡ None) → end_of wanted to found ≡ to
-end-whole First to found none = ap (λ (h : Option Hit). count_after to h) (none refl)
-end-whole Last to found none = refl

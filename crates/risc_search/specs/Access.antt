@@ -37,6 +37,11 @@ accessed (Store byte a b off) r = access_at true byte (address_of (slice_index r
 accessed (BranchReg cond link c) r = None
 accessed (BranchOff cond link off) r = None
 
+-- the next instruction; a stopped machine does none, and beyond RAM none is fetched
+unfoldable pub next_instruction : CpuState → List ℕ → Option Instr
+next_instruction cpu words =
+    if cpu.stop == 0 && nat_lt cpu.pc (2 ^ 18) then Some (instruction_of (slice_index words cpu.pc)) else None
+
 -- what the next instruction accesses; a stopped machine does none, and beyond RAM none is fetched
 unfoldable pub next_access : CpuState → List ℕ → Option Access
 next_access cpu words =

@@ -1,5 +1,8 @@
 -- The conditions that a search looks for, each on one step of a run.
-use Rattle.std.specs.Prelude.{ℕ, ◌≡◌, ◌≢◌, ◌<◌, List, Bool, true, false, length, map, slice_index, IsSome, Option, Some}
+use Rattle.std.specs.Prelude.{ℕ, ◌≡◌, ◌≢◌, ◌<◌, ◌^◌, List, Bool, true, false, length, map, slice_index, IsSome, MatchOption, Option, Some}
+use Rattle.risc_core.specs.declared.flags.Flags.{Flags as FlagsOf}
+use Rattle.risc_core.specs.declared.instruction.Instr.{Instr}
+use Rattle.risc_core.specs.Arithmetic.{and_word}
 use Rattle.risc_core.specs.Flags.{flags_number}
 use Rattle.risc_devices.specs.Input.{kind_of}
 use Rattle.risc_model.specs.declared.event.Event.{Event}
@@ -8,14 +11,17 @@ use Rattle.risc_model.specs.MachineState.{CpuState}
 use Rattle.risc_search.specs.declared.access.Access.{Access}
 use Rattle.risc_search.specs.declared.condition.Condition.{Condition}
 use Rattle.risc_search.specs.declared.condition.Condition.TheVariants.{Counter, Store, Change, Load, Becomes}
-use Rattle.risc_search.specs.declared.condition.Condition.TheVariants.{Sends, SendsByte, Takes, Stops}
+use Rattle.risc_search.specs.declared.condition.Condition.TheVariants.{Sends, SendsByte, Takes, Stops, Writes, Is, IsWord}
 use Rattle.risc_search.specs.declared.register.Register.{Register}
 use Rattle.risc_search.specs.declared.register.Register.TheVariants.{Numbered, Auxiliary, Flags}
 use Rattle.risc_search.specs.declared.span.Span.{Span}
-use Rattle.risc_search.specs.Access.{next_access}
+use Rattle.risc_search.specs.declared.values.Values.{Values}
+use Rattle.risc_search.specs.Access.{next_access, next_instruction}
 use Rattle.risc_search.specs.Changes.{Differ}
 use Rattle.risc_search.specs.Span.{IsIn, Meets}
 use Rattle.risc_search.specs.Step.{Step}
+use Rattle.risc_search.specs.Values.{IsOneOf}
+use Rattle.risc_core.specs.Written.{written_register, writes_auxiliary}
 
 -- the value of a register. The flags are one number: N is 8, Z 4, C 2, V 1
 abbrev pub register_value : Register → CpuState → ℕ
@@ -46,6 +52,25 @@ pub record HasInput (kind : ℕ) (es : List Event) (n : ℕ) : Type 0 where
   pub count : count_at es index ≡ n
   pub kind_is : kind_at es index ≡ kind
 
+-- an instruction that does not stop the machine writes a register. Each write of one of R0 to R15 sets N and Z, so it writes the flags
+abbrev pub IsWrittenBy : Register → Instr → FlagsOf → Type 0
+IsWrittenBy (Numbered number) i flags = written_register i flags ≡ Some number
+IsWrittenBy Auxiliary i flags = writes_auxiliary i ≡ true
+IsWrittenBy Flags i flags = IsSome (written_register i flags)
+
+-- the next instruction, if there is one, is of those that write a register
+abbrev pub IsNextWriting : Register → CpuState → Option Instr → Type 0
+IsNextWriting register cpu next = MatchOption next ⊥ (λ i. IsWrittenBy register i cpu.flags)
+
+-- the instruction of a step writes a register, and does not stop the machine
+pub record WritesAt (register : Register) (step : Step) : Type 0 where
+  pub writes : IsNextWriting register step.before.cpu (next_instruction step.before.cpu step.before.words)
+  pub goes_on : step.after.cpu.stop ≡ 0
+
+-- the bits that a mask names of the word of RAM with a number have one of these values
+abbrev pub IsWordOf : List ℕ → ℕ → ℕ → Values → Type 0
+IsWordOf words number mask values = (number < 2 ^ 18) × IsOneOf values (and_word (slice_index words number) mask)
+
 -- a condition holds at a step
 abbrev pub Holds : Condition → List Event → Step → Type 0
 Holds (Counter words) es step = (step.before.cpu.stop ≡ 0) × IsIn words step.before.cpu.pc
@@ -58,3 +83,8 @@ Holds Sends es step = IsSome step.sent
 Holds (SendsByte byte) es step = step.sent ≡ Some byte
 Holds (Takes kind) es step = (step.before.cpu.stop ≡ 0) × HasInput kind es step.count
 Holds Stops es step = (step.before.cpu.stop ≡ 0) × (step.after.cpu.stop ≢ 0)
+Holds (Writes register) es step = WritesAt register step
+Holds (Is register values) es step =
+    (step.before.cpu.stop ≡ 0) × IsOneOf values (register_value register step.before.cpu)
+Holds (IsWord number mask values) es step =
+    (step.before.cpu.stop ≡ 0) × IsWordOf step.before.words number mask values

@@ -2,8 +2,12 @@
 pub mod Span
 pub mod Access
 pub mod Step
+pub mod Effects
 pub mod Changes
+pub mod Values
 pub mod Condition
+pub mod Clauses
 pub mod Search
+pub mod Hits
 pub mod Laws
 pub mod inner

@@ -1,9 +1,9 @@
 //! The bytes that an instruction loads or stores.
-ghost use Rattle.std.specs.Prelude.{◌≡◌};
+ghost use Rattle.std.specs.Prelude.{◌≡◌, IfSome};
 ghost use Rattle.risc_core.specs.Place.{address_of};
 ghost use Rattle.risc_model.specs.MachineState.{cpu_state};
 ghost use Rattle.risc_core.specs.Instruction.{HasFields};
-ghost use Rattle.risc_search.specs.Access.{access_at, accessed, next_access};
+ghost use Rattle.risc_search.specs.Access.{access_at, accessed, next_access, next_instruction};
 
 use risc_core::{DEVICES, Instr, Place, decode, place};
 use risc_model::Cpu;
@@ -75,4 +75,17 @@ pub(crate) fn next_access(cpu: &Cpu, memory: &Memory<'_>) -> Option<Access>
         return None;
     }
     accessed(decode(memory.read(cpu.pc)), &cpu.r)
+}
+
+/// Returns the next instruction of a machine with this processor and memory.
+#[inline(always)]
+#[tactic(auto, unfolding(crate::specs::Access::next_instruction))]
+pub(crate) fn next_instruction(cpu: &Cpu, memory: &Memory<'_>) -> Option<Instr>
+    ensures instruction { result ≡ next_instruction (cpu_state cpu.now) memory.now.words }
+    ensures fields { IfSome result HasFields }
+{
+    if cpu.stop != 0 || cpu.pc >= MEMORY_WORDS {
+        return None;
+    }
+    Some(decode(memory.read(cpu.pc)))
 }

@@ -1,11 +1,14 @@
 //! The watch of a search: which instructions concern none of its conditions, so that the machine does them at full speed.
-ghost use Rattle.std.specs.Prelude.{◌≡◌, ◌<◌, ◌^◌, true, false, IfSome, ℕ};
+ghost use Rattle.std.specs.Prelude.{◌≡◌, ◌<◌, ◌^◌, true, false, IfSome, IsTrue, length, ℕ};
+ghost use Rattle.risc_search.specs.Clauses.{begins};
 ghost use Rattle.risc_search.specs.Condition.{Accesses};
 ghost use Rattle.risc_search.specs.Span.{IsIn};
-ghost use Rattle.risc_search.specs.inner.Concerns.{CoverAll, Covers, CoversRegister, Includes, IsIgnored, IsNamed, written};
+ghost use Rattle.risc_search.specs.inner.Joined.{IsClauseOf};
+ghost use Rattle.risc_search.specs.inner.Concerns.{CoverAll, Covers, CoversFrom, CoversRegister, Includes, IsIgnored, IsNamed, written};
 
 use crate::access::{Access, accessed};
-use crate::condition::Condition;
+use crate::clauses::{begins, is_joined};
+use crate::condition::{Clause, Condition};
 use crate::register::Register;
 use crate::span::{ALL, NONE, Span};
 use risc_core::{Instr, LINK_REGISTER, decode};
@@ -42,6 +45,50 @@ fn written(instruction: Instr) -> Option<u8>
         Instr::BranchReg { link, .. } => if link { Some(LINK_REGISTER) } else { None },
         Instr::BranchOff { link, .. } => if link { Some(LINK_REGISTER) } else { None },
     }
+}
+
+/// Returns an estimate of how many of 2^18 instructions a condition concerns. Only speed depends on it.
+fn cost(condition: Condition) -> u32 {
+    match condition {
+        Condition::Counter(words) => words.count(),
+        // Four bytes to a word; and each eighth instruction stores, or loads.
+        Condition::Store(bytes) => bytes.count() / 32,
+        Condition::Change(bytes, _) => bytes.count() / 32,
+        Condition::Load(bytes) => bytes.count() / 32,
+        Condition::Becomes(register, _) => cost_of_writes(register),
+        Condition::Sends => 0,
+        Condition::SendsByte(_) => 0,
+        Condition::Takes(_) => 0,
+        Condition::Stops => 0,
+        Condition::Writes(register) => cost_of_writes(register),
+        Condition::Is(_, _) => 1 << 18,
+        Condition::IsWord(_, _, _) => 1 << 18,
+    }
+}
+
+/// Returns the same estimate of the writes of a register: `Concerns::with_register` takes each instruction for H and the flags.
+fn cost_of_writes(register: Register) -> u32 {
+    match register {
+        Register::Numbered(_) => 1 << 15,
+        Register::Auxiliary => 1 << 18,
+        Register::Flags => 1 << 18,
+    }
+}
+
+/// Returns the index of the clause that concerns the fewest instructions, by the estimate, of those that are joined from an index on.
+fn cheapest(conditions: &[Clause], first: usize) -> usize
+    requires { first < length conditions.now }
+    ensures { IsClauseOf conditions.now first result }
+{
+    let mut best = first;
+    let mut index = first;
+    while is_joined(conditions, index) && index + 1 < conditions.len() {
+        index += 1;
+        if cost(conditions[index].condition) < cost(conditions[best].condition) {
+            best = index;
+        }
+    }
+    best
 }
 
 impl Concerns {
@@ -98,17 +145,34 @@ impl Concerns {
             Condition::SendsByte(_) => {}
             Condition::Takes(_) => {}
             Condition::Stops => {}
+            Condition::Writes(register) => return self.with_register(register),
+            Condition::Is(_, _) => return self.with_all(),
+            Condition::IsWord(_, _, _) => return self.with_all(),
         }
         concerns
     }
 
+    /// Returns this with the instructions at which a condition may hold that begins at an index: with those that its cheapest clause
+    /// speaks of. At others that clause does not hold, whatever those do that it is joined with.
+    fn with_joined(self, conditions: &[Clause], first: usize) -> Concerns
+        requires { first < length conditions.now }
+        ensures covers { IsTrue (begins conditions.now first) → CoversFrom result conditions.now first }
+        ensures includes { Includes result self }
+    {
+        if !begins(conditions, first) {
+            return self;
+        }
+        let index = cheapest(conditions, first);
+        self.with(conditions[index].condition)
+    }
+
     /// Returns what a list of conditions speaks of.
-    pub(crate) fn of(conditions: &[Condition]) -> Concerns
+    pub(crate) fn of(conditions: &[Clause]) -> Concerns
         ensures { CoverAll result conditions.now }
     {
         let mut concerns = Concerns::none();
         for index in 0..conditions.len() {
-            concerns = concerns.with(conditions[index]);
+            concerns = concerns.with_joined(conditions, index);
         }
         concerns
     }

@@ -2,6 +2,7 @@
 
 use crate::register::Register;
 use crate::span::Span;
+use crate::values::Values;
 
 /// What holds at a count n of a run. The instruction of count n is the one that the machine does after it took the inputs of this
 /// count.
@@ -26,4 +27,20 @@ pub enum Condition {
     Takes(u8),
     /// The instruction stops the machine.
     Stops,
+    /// The instruction writes the register, whatever the value, and does not stop the machine.
+    Writes(Register),
+    /// The machine runs at count n, and the register has one of these values before the instruction.
+    Is(Register, Values),
+    /// The machine runs at count n, and the bits that the mask, the second number, names of the word of RAM with the first number have
+    /// one of these values before the instruction.
+    IsWord(u32, u32, Values),
+}
+
+/// A condition, and whether it is joined to the one after it in its list: then they hold where both hold.
+#[derive(Clone, Copy, Debug, PartialEq, Eq)]
+pub struct Clause {
+    /// The condition.
+    pub condition: Condition,
+    /// Whether it is joined to the condition of the next clause.
+    pub joined: bool,
 }

@@ -9,9 +9,11 @@
 
 mod access;
 mod before;
+mod clauses;
 mod concerns;
 mod condition;
 mod due;
+mod effect;
 mod hit;
 mod idle;
 mod laws;
@@ -21,11 +23,14 @@ mod register;
 mod search;
 mod span;
 mod stored_word;
+mod values;
 
 pub use access::Access;
-pub use condition::Condition;
-pub use hit::Hit;
-pub use laws::condition_limit_law;
+pub use condition::{Clause, Condition};
+pub use effect::{Accessed, Effect, inputs_after, step_with_effect};
+pub use hit::{Hit, Hits};
+pub use laws::{condition_limit_law, hits_law};
 pub use register::Register;
-pub use search::{MAX_CONDITIONS, find_first, find_last};
+pub use search::{MAX_CONDITIONS, find_all, find_first, find_last};
 pub use span::Span;
+pub use values::Values;

@@ -2,16 +2,20 @@
 //! known after it. Nothing of the processor has to be copied for it.
 ghost use Rattle.std.specs.Prelude.{◌≡◌, ◌<◌, ◌≤◌, ◌↔◌, false, IfNone, IfSome, IsTrue, length, slice_index_or, ℕ};
 ghost use Rattle.risc_model.specs.MachineState.{cpu_state};
-ghost use Rattle.risc_search.specs.Condition.{Accesses};
+ghost use Rattle.risc_search.specs.Condition.{Accesses, IsWordOf};
 ghost use Rattle.risc_search.specs.inner.Due.{HasKind};
-ghost use Rattle.risc_search.specs.inner.Observed.{AreArmed, IsArmed, IsMetAfter, IsMetAt, NoneIsMet};
+ghost use Rattle.risc_search.specs.inner.Observed.{AreArmed, AreMetFrom, IsArmed, IsBefore, IsMetAfter, IsMetAt, NoneIsMet};
 
-use crate::access::Access;
-use crate::before::word_stored;
-use crate::condition::Condition;
+use crate::access::{Access, next_instruction};
+use crate::before::{Before, word_stored};
+use crate::clauses::is_joined;
+use crate::condition::{Clause, Condition};
 use crate::span::Span;
 use crate::stored_word::StoredWord;
+use crate::values::Values;
+use risc_machine::Machine;
 use risc_model::{Cpu, Event};
+use risc_pages::{MEMORY_WORDS, Memory};
 
 /// Reports whether an instruction stores to a byte in the range, or else whether it loads one.
 #[inline(always)]
@@ -36,21 +40,38 @@ fn has_kind(taken: &[Event], kind: u8) -> bool
     false
 }
 
+/// Reports whether the bits that a mask names of the word of RAM with a number have one of these values.
+#[inline(always)]
+fn is_word(memory: &Memory<'_>, number: u32, mask: u32, values: Values) -> bool
+    ensures { IsTrue result ↔ IsWordOf memory.now.words number mask values }
+{
+    number < MEMORY_WORDS && values.contains(memory.read(number) & mask)
+}
+
 /// Reports whether a condition may hold at a step, by what is known before its instruction.
 #[inline(always)]
-fn is_armed(condition: Condition, cpu: &Cpu, access: Option<Access>, taken: &[Event]) -> bool
-    ensures { IsTrue result ↔ IsArmed condition (cpu_state cpu.now) access taken.now }
+fn is_armed(condition: Condition, before: &Before, machine: &Machine<'_>, taken: &[Event]) -> bool
+    requires { IsBefore before.now machine.now.state }
+    ensures { IsTrue result ↔ IsArmed condition machine.now.state taken.now }
 {
+    let cpu = machine.cpu();
     match condition {
         Condition::Counter(words) => cpu.stop == 0 && words.contains(cpu.pc),
-        Condition::Store(bytes) => accesses(access, true, bytes),
-        Condition::Change(_, _) => word_stored(access).is_some(),
-        Condition::Load(bytes) => accesses(access, false, bytes),
+        Condition::Store(bytes) => accesses(before.access, true, bytes),
+        Condition::Change(_, _) => word_stored(before.access).is_some(),
+        Condition::Load(bytes) => accesses(before.access, false, bytes),
         Condition::Becomes(register, value) => register.value(cpu) != value,
         Condition::Sends => true,
         Condition::SendsByte(_) => true,
         Condition::Takes(kind) => cpu.stop == 0 && has_kind(taken, kind),
         Condition::Stops => cpu.stop == 0,
+        Condition::Writes(register) => match next_instruction(cpu, machine.memory()) {
+            Some(instruction) => register.is_written_by(instruction, cpu.flags),
+            None => false,
+        },
+        Condition::Is(register, values) => cpu.stop == 0 && values.contains(register.value(cpu)),
+        Condition::IsWord(number, mask, values) => cpu.stop == 0
+            && is_word(machine.memory(), number, mask, values),
     }
 }
 
@@ -72,50 +93,118 @@ fn is_met(condition: Condition, cpu: &Cpu, stored: Option<StoredWord>, sent: Opt
         Condition::SendsByte(byte) => sent == Some(byte),
         Condition::Takes(_) => true,
         Condition::Stops => cpu.stop != 0,
+        Condition::Writes(_) => cpu.stop == 0,
+        Condition::Is(_, _) => true,
+        Condition::IsWord(_, _, _) => true,
     }
 }
 
-/// Sets which conditions are armed before an instruction. Reports whether any is.
+/// Sets which clauses are armed before an instruction. Reports whether any is.
 #[inline(always)]
 pub(crate) fn arm(
-    conditions: &[Condition],
-    cpu: &Cpu,
-    access: Option<Access>,
+    conditions: &[Clause],
+    before: &Before,
+    machine: &Machine<'_>,
     taken: &[Event],
     armed: &mut [bool],
 ) -> bool
-    requires { length conditions.now ≤ length armed.old }
-    ensures armed { AreArmed conditions.now (cpu_state cpu.now) access taken.now armed.new }
+    requires before { IsBefore before.now machine.now.state }
+    requires armed { length conditions.now ≤ length armed.old }
+    ensures armed { AreArmed conditions.now machine.now.state taken.now armed.new }
     ensures count { length armed.new ≡ length armed.old }
     ensures none { result ≡ false → (k : ℕ) → k < length conditions.now → ¬ (IsTrue (slice_index_or armed.new k false)) }
 {
     let mut any = false;
     for index in 0..conditions.len() {
-        let is_armed = is_armed(conditions[index], cpu, access, taken);
+        let is_armed = is_armed(conditions[index].condition, before, machine, taken);
         armed[index] = is_armed;
         any |= is_armed;
     }
     any
 }
 
-/// Returns the index of the first condition that is armed and met.
+/// Reports whether the clause at an index is armed and met.
+#[inline(always)]
+fn is_met_at(
+    conditions: &[Clause],
+    armed: &[bool],
+    index: usize,
+    cpu: &Cpu,
+    stored: Option<StoredWord>,
+    sent: Option<u8>,
+) -> bool
+    requires inside { index < length conditions.now }
+    requires armed { length conditions.now ≤ length armed.now }
+    ensures { IsTrue result ↔ IsMetAt conditions.now armed.now (cpu_state cpu.now) stored sent index }
+{
+    armed[index] && is_met(conditions[index].condition, cpu, stored, sent)
+}
+
+/// Reports whether a clause is armed and met: if none is, no condition is, whichever are joined.
+#[inline(always)]
+fn any_met(
+    conditions: &[Clause],
+    armed: &[bool],
+    cpu: &Cpu,
+    stored: Option<StoredWord>,
+    sent: Option<u8>,
+) -> bool
+    requires { length conditions.now ≤ length armed.now }
+    ensures { result ≡ false →
+        (k : ℕ) → k < length conditions.now → ¬ (IsMetAt conditions.now armed.now (cpu_state cpu.now) stored sent k) }
+{
+    for index in 0..conditions.len() {
+        if is_met_at(conditions, armed, index, cpu, stored, sent) {
+            return true;
+        }
+    }
+    false
+}
+
+/// Returns the index of the first condition of which each clause is armed and met.
 #[inline(always)]
 pub(crate) fn first_met(
-    conditions: &[Condition],
+    conditions: &[Clause],
     armed: &[bool],
     cpu: &Cpu,
     stored: Option<StoredWord>,
     sent: Option<u8>,
 ) -> Option<usize>
     requires { length conditions.now ≤ length armed.now }
-    ensures inside { IfSome result (λ index. index < length conditions.now) }
-    ensures met { IfSome result (IsMetAt conditions.now armed.now (cpu_state cpu.now) stored sent) }
+    ensures met { IfSome result (AreMetFrom conditions.now armed.now (cpu_state cpu.now) stored sent) }
     ensures least { IfSome result (NoneIsMet conditions.now armed.now (cpu_state cpu.now) stored sent) }
     ensures none { IfNone result (NoneIsMet conditions.now armed.now (cpu_state cpu.now) stored sent (length conditions.now)) }
 {
+    if !any_met(conditions, armed, cpu, stored, sent) {
+        return None;
+    }
+    first_joined(conditions, armed, cpu, stored, sent)
+}
+
+/// Returns the same index, by a look at each clause.
+#[inline(never)]
+fn first_joined(
+    conditions: &[Clause],
+    armed: &[bool],
+    cpu: &Cpu,
+    stored: Option<StoredWord>,
+    sent: Option<u8>,
+) -> Option<usize>
+    requires { length conditions.now ≤ length armed.now }
+    ensures met { IfSome result (AreMetFrom conditions.now armed.now (cpu_state cpu.now) stored sent) }
+    ensures least { IfSome result (NoneIsMet conditions.now armed.now (cpu_state cpu.now) stored sent) }
+    ensures none { IfNone result (NoneIsMet conditions.now armed.now (cpu_state cpu.now) stored sent (length conditions.now)) }
+{
+    let mut first = 0;
+    let mut all = true;
     for index in 0..conditions.len() {
-        if armed[index] && is_met(conditions[index], cpu, stored, sent) {
-            return Some(index);
+        all &= is_met_at(conditions, armed, index, cpu, stored, sent);
+        if !is_joined(conditions, index) {
+            if all {
+                return Some(first);
+            }
+            first = index + 1;
+            all = true;
         }
     }
     None

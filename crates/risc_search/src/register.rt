@@ -1,8 +1,12 @@
 //! The registers that a search can watch.
-ghost use Rattle.std.specs.Prelude.{◌≡◌};
+ghost use Rattle.std.specs.Prelude.{◌≡◌, ◌↔◌, IsTrue, None, Some, if◌then◌else◌};
+ghost use Rattle.risc_core.specs.Instruction.{HasFields};
 ghost use Rattle.risc_model.specs.MachineState.{cpu_state};
-ghost use Rattle.risc_search.specs.Condition.{register_value};
+ghost use Rattle.risc_search.specs.Condition.{IsWrittenBy, register_value};
+ghost use Rattle.risc_core.specs.Written.{written_register, writes_auxiliary};
 
+use risc_core::operations::{DIV, MUL};
+use risc_core::{Flags, Instr, LINK_REGISTER, taken};
 use risc_model::Cpu;
 
 /// A register of the processor ("The RISC Architecture", N. Wirth).
@@ -30,5 +34,58 @@ impl Register {
             Register::Auxiliary => cpu.h,
             Register::Flags => cpu.flags.number(),
         }
+    }
+    /// Reports whether an instruction that does not stop the machine writes the register.
+    #[inline]
+    pub(crate) fn is_written_by(self, instruction: Instr, flags: Flags) -> bool
+        requires { HasFields instruction }
+        ensures { IsTrue result ↔ IsWrittenBy self instruction flags }
+    {
+        match self {
+            Register::Numbered(number) => written_register(instruction, flags) == Some(number),
+            Register::Auxiliary => writes_auxiliary(instruction),
+            Register::Flags => written_register(instruction, flags).is_some(),
+        }
+    }
+}
+
+/// Returns which of R0 to R15 an instruction writes that does not stop the machine.
+#[inline]
+#[tactic(auto, unfolding(risc_core::specs::Written::written_register, risc_core::specs::Written::links))]
+fn written_register(instruction: Instr, flags: Flags) -> Option<u8>
+    requires { HasFields instruction }
+    ensures { result ≡ written_register instruction flags }
+{
+    match instruction {
+        Instr::Reg { a, .. } => Some(a),
+        Instr::Imm { a, .. } => Some(a),
+        Instr::Load { a, .. } => Some(a),
+        Instr::Store { .. } => None,
+        Instr::BranchReg { cond, link, .. } => linked(link && taken(cond, flags)),
+        Instr::BranchOff { cond, link, .. } => linked(link && taken(cond, flags)),
+    }
+}
+
+/// Returns the register of a link, if a branch links.
+#[inline]
+fn linked(links: bool) -> Option<u8>
+    ensures { result ≡ if links then Some LINK_REGISTER else None }
+{
+    if links { Some(LINK_REGISTER) } else { None }
+}
+
+/// Reports whether an instruction that does not stop the machine writes H: the high half of a product, or a remainder.
+#[inline]
+#[tactic(auto, unfolding(risc_core::specs::Written::writes_auxiliary))]
+fn writes_auxiliary(instruction: Instr) -> bool
+    ensures { result ≡ writes_auxiliary instruction }
+{
+    match instruction {
+        Instr::Reg { op, .. } => op == MUL || op == DIV,
+        Instr::Imm { op, .. } => op == MUL || op == DIV,
+        Instr::Load { .. } => false,
+        Instr::Store { .. } => false,
+        Instr::BranchReg { .. } => false,
+        Instr::BranchOff { .. } => false,
     }
 }

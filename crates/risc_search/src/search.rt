@@ -1,20 +1,21 @@
 //! The search: a machine runs at full speed past the instructions that concern no condition, and each step of the others is tested.
-ghost use Rattle.std.specs.Prelude.{◌≡◌, ◌≤◌, ◌<◌, ◌+◌, ◌-◌, ◌^◌, true, None, IfOk, OnErr, OnOk, length, max};
-ghost use Rattle.risc_machine.specs.Allocation.{MayFail};
+ghost use Rattle.std.specs.Prelude.{◌≡◌, ◌≤◌, ◌<◌, ◌+◌, ◌-◌, ◌^◌, true, None, IfOk, OnErr, OnOk, ◌⊎◌, length, max};
+ghost use Rattle.risc_machine.specs.Allocation.{Keeps, MayFail};
 ghost use Rattle.risc_model.specs.Exec.{exec};
 ghost use Rattle.risc_model.specs.Replay.{feed, run_of};
+ghost use Rattle.risc_search.specs.Hits.{AreFirstHits, HasHit};
 ghost use Rattle.risc_search.specs.Search.{IsFirst, IsLast, count_after};
 ghost use Rattle.risc_search.specs.inner.Concerns.{CoverAll};
 ghost use Rattle.risc_search.specs.inner.Due.{IsQuiet};
 ghost use Rattle.risc_search.specs.inner.Idle.{HasPassed};
 ghost use Rattle.risc_search.specs.inner.Observed.{IsAnswerFrom, IsBefore, IsSilentFrom};
-ghost use Rattle.risc_search.specs.inner.Wanted.{IsFirstOf, IsLastOf, end_of};
+ghost use Rattle.risc_search.specs.inner.Progress.{IsInRange};
 
 use crate::before::Before;
 use crate::concerns::Concerns;
-use crate::condition::Condition;
+use crate::condition::Clause;
 use crate::due::{due_after, inputs_at, next_due};
-use crate::hit::Hit;
+use crate::hit::{Hit, Hits};
 use crate::idle::Passed;
 use crate::meeting::{arm, first_met};
 use crate::pace::Pace;
@@ -25,21 +26,23 @@ use std::alloc::{AllocError, Global};
 /// The most conditions that one search takes.
 pub const MAX_CONDITIONS: usize = 64;
 
-/// Which of the counts a search looks for.
-#[derive(Clone, Copy, PartialEq, Eq)]
-enum Wanted {
-    First,
-    Last,
+/// Where a search is.
+#[derive(Clone, Copy)]
+struct Progress {
+    /// The count of its machine.
+    at: u64,
+    /// The count of the next input, or the end of the range if none comes before it.
+    due: u64,
+    pace: Pace,
 }
 
-/// What a search takes and looks for.
+/// What a search takes.
 #[derive(Clone, Copy)]
 pub(crate) struct Search<'s> {
     alloc: Global,
     pub(crate) inputs: &'s Inputs,
-    pub(crate) conditions: &'s [Condition],
+    pub(crate) conditions: &'s [Clause],
     concerns: Concerns,
-    wanted: Wanted,
 }
 
 /// The result of a step.
@@ -51,7 +54,33 @@ pub(crate) struct Stepped {
     pub(crate) is_silent: bool,
 }
 
-impl Search<'_> {
+impl<'s> Search<'s> {
+    fn new(alloc: Global, inputs: &'s Inputs, conditions: &'s [Clause]) -> Search<'s>
+        ensures inputs { result.inputs.now ≡ inputs.now }
+        ensures conditions { result.conditions.now ≡ conditions.now }
+        ensures concerns { CoverAll result.concerns conditions.now }
+    {
+        Search {
+            alloc,
+            inputs,
+            conditions,
+            concerns: Concerns::of(conditions),
+        }
+    }
+
+    /// Returns where a search is at the first count of its range.
+    fn begin(&self, from: u64, to: u64) -> Progress
+        requires { from ≤ to }
+        ensures at { result.at ≡ from }
+        ensures range { IsInRange self.now.inputs.now to result }
+    {
+        Progress {
+            at: from,
+            due: next_due(self.inputs.events(), from, to),
+            pace: Pace::new(from),
+        }
+    }
+
     /// Does the step of a count that has no inputs, of which `before` is known.
     #[inline(always)]
     pub(crate) fn step_after(
@@ -69,8 +98,9 @@ impl Search<'_> {
         ensures met { IfOk result (λ step. IsAnswerFrom self.now.conditions.now self.now.inputs.now at machine.old.state step.met) }
         ensures silent { IfOk result (λ step. step.is_silent ≡ true → IsSilentFrom self.now.inputs.now at machine.old.state) }
         ensures cause { OnErr result (MayFail machine.new) }
+        ensures kept { Keeps machine.old machine.new }
     {
-        let any = arm(self.conditions, machine.cpu(), before.access, &[], armed);
+        let any = arm(self.conditions, before, machine, &[], armed);
         let sent = machine.step()?;
         let is_silent = sent.is_none();
         if !any {
@@ -98,6 +128,7 @@ impl Search<'_> {
         ensures state { OnOk result (machine.new.state ≡ (exec (feed self.now.inputs.now at machine.old.state)).0) }
         ensures met { IfOk result (IsAnswerFrom self.now.conditions.now self.now.inputs.now at machine.old.state) }
         ensures cause { OnErr result (MayFail machine.new) }
+        ensures kept { Keeps machine.old machine.new }
     {
         let before = Before::of(machine);
         let step = self.step_after(&before, machine, at, armed)?;
@@ -119,10 +150,11 @@ impl Search<'_> {
         ensures state { OnOk result (machine.new.state ≡ (exec (feed self.now.inputs.now at machine.old.state)).0) }
         ensures met { IfOk result (IsAnswerFrom self.now.conditions.now self.now.inputs.now at machine.old.state) }
         ensures cause { OnErr result (MayFail machine.new) }
+        ensures kept { Keeps machine.old machine.new }
     {
         let before = Before::of(machine);
         let taken = inputs_at(self.inputs.events(), at);
-        let _any = arm(self.conditions, machine.cpu(), before.access, taken, armed);
+        let _any = arm(self.conditions, &before, machine, taken, armed);
         let mut sent = Vec::new(self.alloc);
         let Ok(()) = machine.run(self.inputs, at, at + 1, &mut sent) else {
             return Err(AllocError);
@@ -132,8 +164,8 @@ impl Search<'_> {
         Ok(first_met(self.conditions, armed, machine.cpu(), stored, sent))
     }
 
-    /// Goes on from a count that is before that of the next input, or at it: by the instructions that concern no condition, by one
-    /// step, or by more if the machine is in an idle loop.
+    /// Goes on from a count that is before that of the next input, or at it: by the instructions that concern no condition and one
+    /// that may, or by more if the machine is in an idle loop.
     #[inline(always)]
     fn advance(
         &self,
@@ -154,6 +186,7 @@ impl Search<'_> {
         ensures state { IfOk result (λ p. machine.new.state ≡ run_of self.now.inputs.now at (p.at - at) machine.old.state) }
         ensures passed { IfOk result (HasPassed self.now.conditions.now self.now.inputs.now at machine.old.state) }
         ensures cause { OnErr result (MayFail machine.new) }
+        ensures kept { Keeps machine.old machine.new }
     {
         if at == due {
             let met = self.step_with_inputs(machine, at, armed)?;
@@ -168,61 +201,73 @@ impl Search<'_> {
             pace.looked(passed.at, passed.period);
             return Ok(passed);
         }
-        let steps = machine.run_unwatched(&self.concerns, pace.room(at, due));
-        if steps > 0 {
+        let room = pace.room(at, due);
+        let steps = machine.run_unwatched(&self.concerns, room);
+        if steps == room {
             return Ok(Passed {
                 at: at + steps,
                 met: None,
                 period: 0,
             });
         }
-        let met = self.step_quietly(machine, at, armed)?;
+        let met = self.step_quietly(machine, at + steps, armed)?;
         Ok(Passed {
-            at: at + 1,
+            at: at + steps + 1,
             met,
             period: 0,
         })
     }
 
-    /// Runs a machine from one count up to another, and returns the wanted one of the counts at which a condition holds.
-    ///
-    /// Where the first is wanted and there is one, the machine comes to the count after it; else to the end of the range.
-    fn run(&self, machine: &mut Machine<'_>, from: u64, to: u64) -> Result<Option<Hit>, AllocError>
-        requires forward { from ≤ to }
-        requires few { length self.now.conditions.now ≤ MAX_CONDITIONS }
+    /// Goes on to the next count at which a condition holds, and returns it with the condition. The machine comes to the count after
+    /// it; or to the end of the range, if there is none.
+    fn next(
+        &self,
+        machine: &mut Machine<'_>,
+        progress: &mut Progress,
+        to: u64,
+        armed: &mut [bool],
+    ) -> Result<Option<Hit>, AllocError>
+        requires progress { IsInRange self.now.inputs.now to progress.old }
         requires concerns { CoverAll self.now.concerns self.now.conditions.now }
-        ensures first { self.now.wanted ≡ Wanted.First → IfOk result (IsFirstOf self.now from to machine.old.state) }
-        ensures last { self.now.wanted ≡ Wanted.Last → IfOk result (IsLastOf self.now from to machine.old.state) }
-        ensures state { IfOk result (λ found.
-            machine.new.state ≡ run_of self.now.inputs.now from (end_of self.now.wanted to found - from) machine.old.state) }
+        requires armed { length self.now.conditions.now ≤ length armed.old }
+        ensures armed { length armed.new ≡ length armed.old }
+        ensures first { IfOk result (IsFirst self.now.conditions.now self.now.inputs.now progress.old.at to machine.old.state) }
+        ensures at { IfOk result (λ found. progress.new.at ≡ count_after to found) }
+        ensures progress { OnOk result (IsInRange self.now.inputs.now to progress.new) }
+        ensures state { OnOk result (machine.new.state ≡
+            run_of self.now.inputs.now progress.old.at (progress.new.at - progress.old.at) machine.old.state) }
         ensures cause { OnErr result (MayFail machine.new) }
+        ensures kept { Keeps machine.old machine.new }
     {
         let events = self.inputs.events();
-        let mut armed = [false; MAX_CONDITIONS];
-        let mut found = None;
-        let mut at = from;
-        let mut due = next_due(events, from, to);
-        let mut pace = Pace::new(from);
+        let Progress {
+            mut at,
+            mut due,
+            mut pace,
+        } = *progress;
         while at < to && machine.cpu().stop == 0 {
-            let passed = self.advance(machine, at, due, &mut pace, &mut armed)?;
-            if let Some(condition) = passed.met {
-                found = Some(Hit {
-                    count: passed.at - 1,
-                    condition,
-                });
-                if self.wanted == Wanted::First {
-                    return Ok(found);
-                }
-            }
+            let passed = self.advance(machine, at, due, &mut pace, armed)?;
             due = due_after(events, passed.at, due, to);
             at = passed.at;
+            if let Some(condition) = passed.met {
+                *progress = Progress { at, due, pace };
+                return Ok(Some(Hit {
+                    count: at - 1,
+                    condition,
+                }));
+            }
         }
-        Ok(found)
+        *progress = Progress {
+            at: to,
+            due: to,
+            pace,
+        };
+        Ok(None)
     }
 }
 
 /// Finds the first count, from `from` up to but not including `to`, at which a condition of the list holds, in a run of the machine
-/// that begins at the count `from`.
+/// that begins at the count `from`. Conditions that are joined are one, and have the index of the first of them.
 ///
 /// Afterwards the machine is in the state of that run right after the instruction of the count that is returned, or in that of the
 /// count `to` if there is none. Fails only if memory runs out.
@@ -232,7 +277,7 @@ pub fn find_first(
     inputs: &Inputs,
     from: u64,
     to: u64,
-    conditions: &[Condition],
+    conditions: &[Clause],
 ) -> Result<Option<Hit>, AllocError>
     requires forward { from ≤ to }
     requires few { length conditions.now ≤ MAX_CONDITIONS }
@@ -240,19 +285,16 @@ pub fn find_first(
     ensures state { IfOk result (λ found.
         machine.new.state ≡ run_of inputs.now from (count_after to found - from) machine.old.state) }
     ensures cause { OnErr result (MayFail machine.new) }
+    ensures kept { Keeps machine.old machine.new }
 {
-    let search = Search {
-        alloc,
-        inputs,
-        conditions,
-        concerns: Concerns::of(conditions),
-        wanted: Wanted::First,
-    };
-    search.run(machine, from, to)
+    let search = Search::new(alloc, inputs, conditions);
+    let mut progress = search.begin(from, to);
+    let mut armed = [false; MAX_CONDITIONS];
+    search.next(machine, &mut progress, to, &mut armed)
 }
 
 /// Finds the last count, from `from` up to but not including `to`, at which a condition of the list holds, in a run of the machine
-/// that begins at the count `from`.
+/// that begins at the count `from`. Conditions that are joined are one, as for `find_first`.
 ///
 /// Afterwards the machine is in the state of that run at the count `to`. Fails only if memory runs out.
 pub fn find_last(
@@ -261,20 +303,63 @@ pub fn find_last(
     inputs: &Inputs,
     from: u64,
     to: u64,
-    conditions: &[Condition],
+    conditions: &[Clause],
 ) -> Result<Option<Hit>, AllocError>
     requires forward { from ≤ to }
     requires few { length conditions.now ≤ MAX_CONDITIONS }
     ensures last { IfOk result (IsLast conditions.now inputs.now from to machine.old.state) }
     ensures state { OnOk result (machine.new.state ≡ run_of inputs.now from (to - from) machine.old.state) }
     ensures cause { OnErr result (MayFail machine.new) }
+    ensures kept { Keeps machine.old machine.new }
 {
-    let search = Search {
-        alloc,
-        inputs,
-        conditions,
-        concerns: Concerns::of(conditions),
-        wanted: Wanted::Last,
-    };
-    search.run(machine, from, to)
+    let search = Search::new(alloc, inputs, conditions);
+    let mut progress = search.begin(from, to);
+    let mut armed = [false; MAX_CONDITIONS];
+    let mut found = None;
+    while progress.at < to {
+        let Some(hit) = search.next(machine, &mut progress, to, &mut armed)? else {
+            return Ok(found);
+        };
+        found = Some(hit);
+    }
+    Ok(found)
+}
+
+/// Finds all counts, from `from` up to but not including `to`, at which a condition of the list holds, in their order, in a run of the
+/// machine that begins at the count `from`; or the first `room` of them. Conditions that are joined are one, as for `find_first`.
+///
+/// Afterwards the machine is in the state of that run at the count `next` of what is returned: `to`, or the count after the last hit
+/// if there is no more room. A search that begins there finds the hits after these. Fails only if memory runs out, for the machine or for the
+/// list of hits.
+pub fn find_all(
+    alloc: Global,
+    machine: &mut Machine<'_>,
+    inputs: &Inputs,
+    from: u64,
+    to: u64,
+    conditions: &[Clause],
+    room: usize,
+) -> Result<Hits, AllocError>
+    requires forward { from ≤ to }
+    requires few { length conditions.now ≤ MAX_CONDITIONS }
+    requires room { 0 < room }
+    ensures hits { IfOk result (λ hits.
+        AreFirstHits conditions.now inputs.now from to machine.old.state room hits.list.items hits.next) }
+    ensures state { IfOk result (λ hits. machine.new.state ≡ run_of inputs.now from (hits.next - from) machine.old.state) }
+    ensures cause { OnErr result (MayFail machine.new ⊎ HasHit conditions.now inputs.now from to machine.old.state) }
+    ensures kept { Keeps machine.old machine.new }
+{
+    let search = Search::new(alloc, inputs, conditions);
+    let mut progress = search.begin(from, to);
+    let mut armed = [false; MAX_CONDITIONS];
+    let mut list = Vec::new(alloc);
+    while progress.at < to && list.len() < room {
+        if let Some(hit) = search.next(machine, &mut progress, to, &mut armed)? {
+            list.push(hit)?;
+        }
+    }
+    Ok(Hits {
+        list,
+        next: progress.at,
+    })
 }

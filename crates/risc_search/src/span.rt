@@ -27,6 +27,11 @@ impl Span {
         self.from.max(first) < self.end.min(first.saturating_add(count))
     }
 
+    /// Returns how many numbers there are.
+    pub(crate) fn count(self) -> u32 {
+        self.end.saturating_sub(self.from)
+    }
+
     /// Returns the numbers from the first of two ranges to the last of them.
     pub(crate) fn joined(self, other: Span) -> Span
         ensures this { (n : ℕ) → IsIn self n → IsIn result n }

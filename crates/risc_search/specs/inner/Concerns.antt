@@ -1,18 +1,21 @@
 -- What the watch of a search ignores: instructions that concern none of its conditions.
 use Rattle.std.specs.Prelude.{ℕ, ◌≡◌, ◌<◌, ◌/◌, ◌^◌, Bool, true, false, List, length}
-use Rattle.std.specs.Prelude.{slice_index_or, Option, None, Some, IfSome, ⊤, ◌⊎◌, if◌then◌else◌}
+use Rattle.std.specs.Prelude.{slice_index_or, Option, None, Some, IfSome, IsTrue, ⊤, ◌⊎◌, if◌then◌else◌}
 use Rattle.risc_core.specs.declared.instruction.Instr.{Instr}
 use Rattle.risc_core.specs.declared.instruction.Instr.TheVariants.{Reg, Imm, Load, Store, BranchReg, BranchOff}
 use Rattle.risc_core.specs.Instruction.{instruction_of}
 use Rattle.risc_search.specs.declared.concerns.Concerns.{Concerns}
+use Rattle.risc_search.specs.declared.condition.Clause.{Clause}
 use Rattle.risc_search.specs.declared.condition.Condition.{Condition}
 use Rattle.risc_search.specs.declared.condition.Condition.TheVariants.{Counter, Store as Stored, Change, Load as Loaded}
-use Rattle.risc_search.specs.declared.condition.Condition.TheVariants.{Becomes, Sends, SendsByte, Takes, Stops}
+use Rattle.risc_search.specs.declared.condition.Condition.TheVariants.{Becomes, Sends, SendsByte, Takes, Stops, Writes, Is, IsWord}
 use Rattle.risc_search.specs.declared.register.Register.{Register}
 use Rattle.risc_search.specs.declared.register.Register.TheVariants.{Numbered, Auxiliary, Flags}
 use Rattle.risc_search.specs.Access.{accessed}
+use Rattle.risc_search.specs.Clauses.{begins}
 use Rattle.risc_search.specs.Condition.{Accesses}
 use Rattle.risc_search.specs.Span.{IsIn}
+use Rattle.risc_search.specs.inner.Joined.{IsClauseOf}
 
 -- the one of R0 to R15 that an instruction writes, if it does not stop the machine
 unfoldable pub written : Instr → Option ℕ
@@ -55,10 +58,20 @@ Covers concerns Sends = ⊤
 Covers concerns (SendsByte byte) = ⊤
 Covers concerns (Takes kind) = ⊤
 Covers concerns Stops = ⊤
+Covers concerns (Writes register) = CoversRegister concerns register
+Covers concerns (Is register values) = IsAll concerns
+Covers concerns (IsWord number mask values) = IsAll concerns
+
+-- a clause of the condition that begins at an index is covered: where that one does not hold, nor does the condition
+pub record CoversFrom (concerns : Concerns) (conditions : List Clause) (first : ℕ) : Type 0 where
+  pub index : ℕ
+  pub clause : IsClauseOf conditions first index
+  pub covers : (d : Clause) → Covers concerns (slice_index_or conditions index d).condition
 
 -- and so for each condition of a list
-abbrev pub CoverAll : Concerns → List Condition → Type 0
-CoverAll concerns conditions = (k : ℕ) (d : Condition) → k < length conditions → Covers concerns (slice_index_or conditions k d)
+abbrev pub CoverAll : Concerns → List Clause → Type 0
+CoverAll concerns conditions =
+    (first : ℕ) → first < length conditions → IsTrue (begins conditions first) → CoversFrom concerns conditions first
 
 -- what is of concern before is of concern after
 pub record Includes (new old : Concerns) : Type 0 where

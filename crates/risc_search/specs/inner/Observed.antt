@@ -8,17 +8,20 @@ use Rattle.risc_model.specs.MachineState.{CpuState, State}
 use Rattle.risc_model.specs.Replay.{feed}
 use Rattle.risc_search.specs.declared.access.Access.{Access}
 use Rattle.risc_search.specs.declared.before.Before.{Before}
+use Rattle.risc_search.specs.declared.condition.Clause.{Clause}
 use Rattle.risc_search.specs.declared.condition.Condition.{Condition}
 use Rattle.risc_search.specs.declared.condition.Condition.TheVariants.{Counter, Store, Change, Load, Becomes}
-use Rattle.risc_search.specs.declared.condition.Condition.TheVariants.{Sends, SendsByte, Takes, Stops}
+use Rattle.risc_search.specs.declared.condition.Condition.TheVariants.{Sends, SendsByte, Takes, Stops, Writes, Is, IsWord}
 use Rattle.risc_search.specs.declared.stored_word.StoredWord.{StoredWord}
 use Rattle.risc_search.specs.declared.span.Span.{Span}
-use Rattle.risc_search.specs.Access.{next_access}
-use Rattle.risc_search.specs.Condition.{Accesses, register_value}
+use Rattle.risc_search.specs.Access.{next_access, next_instruction}
+use Rattle.risc_search.specs.Condition.{Accesses, IsNextWriting, IsWordOf, register_value}
 use Rattle.risc_search.specs.Search.{IsMet, NoneHolds}
 use Rattle.risc_search.specs.Span.{IsIn}
 use Rattle.risc_search.specs.Step.{Step, step_from}
+use Rattle.risc_search.specs.Values.{IsOneOf}
 use Rattle.risc_search.specs.inner.Due.{HasKind}
+use Rattle.risc_search.specs.inner.Joined.{AreAll}
 
 -- the number of the word of RAM that an access stores to
 abbrev pub word_stored : Option Access → Option ℕ
@@ -71,16 +74,20 @@ pub record Differs (bytes : Span) (mask : ℕ) (word : StoredWord) : Type 0 wher
   pub at : DiffersAt bytes mask word index
 
 -- a condition is armed: by what is known before the instruction, it may hold
-abbrev pub IsArmed : Condition → CpuState → Option Access → List Event → Type 0
-IsArmed (Counter words) cpu access taken = (cpu.stop ≡ 0) × IsIn words cpu.pc
-IsArmed (Store bytes) cpu access taken = Accesses true bytes access
-IsArmed (Change bytes mask) cpu access taken = IsSome (word_stored access)
-IsArmed (Load bytes) cpu access taken = Accesses false bytes access
-IsArmed (Becomes register value) cpu access taken = register_value register cpu ≢ value
-IsArmed Sends cpu access taken = ⊤
-IsArmed (SendsByte byte) cpu access taken = ⊤
-IsArmed (Takes kind) cpu access taken = (cpu.stop ≡ 0) × HasKind kind taken
-IsArmed Stops cpu access taken = cpu.stop ≡ 0
+abbrev pub IsArmed : Condition → State → List Event → Type 0
+IsArmed (Counter words) s taken = (s.cpu.stop ≡ 0) × IsIn words s.cpu.pc
+IsArmed (Store bytes) s taken = Accesses true bytes (next_access s.cpu s.words)
+IsArmed (Change bytes mask) s taken = IsSome (word_stored (next_access s.cpu s.words))
+IsArmed (Load bytes) s taken = Accesses false bytes (next_access s.cpu s.words)
+IsArmed (Becomes register value) s taken = register_value register s.cpu ≢ value
+IsArmed Sends s taken = ⊤
+IsArmed (SendsByte byte) s taken = ⊤
+IsArmed (Takes kind) s taken = (s.cpu.stop ≡ 0) × HasKind kind taken
+IsArmed Stops s taken = s.cpu.stop ≡ 0
+IsArmed (Writes register) s taken = IsNextWriting register s.cpu (next_instruction s.cpu s.words)
+IsArmed (Is register values) s taken = (s.cpu.stop ≡ 0) × IsOneOf values (register_value register s.cpu)
+IsArmed (IsWord number mask values) s taken =
+    (s.cpu.stop ≡ 0) × IsWordOf s.words number mask values
 
 -- an armed condition is met: by what is known after the instruction, it holds
 abbrev pub IsMetAfter : Condition → CpuState → Option StoredWord → Option ℕ → Type 0
@@ -93,28 +100,34 @@ IsMetAfter Sends cpu stored sent = IsSome sent
 IsMetAfter (SendsByte byte) cpu stored sent = sent ≡ Some byte
 IsMetAfter (Takes kind) cpu stored sent = ⊤
 IsMetAfter Stops cpu stored sent = cpu.stop ≢ 0
+IsMetAfter (Writes register) cpu stored sent = cpu.stop ≡ 0
+IsMetAfter (Is register values) cpu stored sent = ⊤
+IsMetAfter (IsWord number mask values) cpu stored sent = ⊤
 
--- which conditions of a list are armed
-abbrev pub AreArmed : List Condition → CpuState → Option Access → List Event → List Bool → Type 0
-AreArmed conditions cpu access taken armed =
-    (k : ℕ) (d : Condition) → k < length conditions
-    → IsTrue (slice_index_or armed k false) ↔ IsArmed (slice_index_or conditions k d) cpu access taken
+-- which clauses of a list are armed
+abbrev pub AreArmed : List Clause → State → List Event → List Bool → Type 0
+AreArmed conditions s taken armed =
+    (k : ℕ) (d : Clause) → k < length conditions → IsTrue (slice_index_or armed k false) ↔ IsArmed (slice_index_or conditions k d).condition s taken
 
--- a condition of the list is armed and met
-abbrev pub IsMetAt : List Condition → List Bool → CpuState → Option StoredWord → Option ℕ → ℕ → Type 0
+-- a clause of the list is armed and met
+abbrev pub IsMetAt : List Clause → List Bool → CpuState → Option StoredWord → Option ℕ → ℕ → Type 0
 IsMetAt conditions armed cpu stored sent k =
-    (d : Condition) → IsTrue (slice_index_or armed k false) × IsMetAfter (slice_index_or conditions k d) cpu stored sent
+    (d : Clause) → IsTrue (slice_index_or armed k false) × IsMetAfter (slice_index_or conditions k d).condition cpu stored sent
 
--- no condition of the list before the index is armed and met
-abbrev pub NoneIsMet : List Condition → List Bool → CpuState → Option StoredWord → Option ℕ → ℕ → Type 0
-NoneIsMet conditions armed cpu stored sent index = (k : ℕ) → k < index → ¬ (IsMetAt conditions armed cpu stored sent k)
+-- so is each clause of the condition that begins at an index
+abbrev pub AreMetFrom : List Clause → List Bool → CpuState → Option StoredWord → Option ℕ → ℕ → Type 0
+AreMetFrom conditions armed cpu stored sent first = AreAll conditions (IsMetAt conditions armed cpu stored sent) first
+
+-- there is no such condition before the index
+abbrev pub NoneIsMet : List Clause → List Bool → CpuState → Option StoredWord → Option ℕ → ℕ → Type 0
+NoneIsMet conditions armed cpu stored sent index = (k : ℕ) → k < index → ¬ (AreMetFrom conditions armed cpu stored sent k)
 
 -- the first condition of a list that holds at a step, or that none does
-abbrev pub IsAnswer : List Condition → List Event → Step → Option ℕ → Type 0
+abbrev pub IsAnswer : List Clause → List Event → Step → Option ℕ → Type 0
 IsAnswer conditions es step met = MatchOption met (NoneHolds conditions es step) (IsMet conditions es step)
 
 -- the same of the step of a count from a state
-abbrev pub IsAnswerFrom : List Condition → List Event → ℕ → State → Option ℕ → Type 0
+abbrev pub IsAnswerFrom : List Clause → List Event → ℕ → State → Option ℕ → Type 0
 IsAnswerFrom conditions es n s met = IsAnswer conditions es (step_from es n s) met
 
 -- that step sends nothing

@@ -1,7 +1,8 @@
-use Rattle.std.proofs.Common.{◌<◌, ℕ, get_or}
-use Rattle.risc_search.specs.declared.condition.Condition.{Condition}
-use Rattle.risc_search.specs.inner.Concerns.{Covers}
+use Rattle.std.proofs.Common.{◌<◌, ℕ}
+use Rattle.std.specs.Prelude.{IsTrue}
+use Rattle.risc_search.specs.Clauses.{begins}
+use Rattle.risc_search.specs.inner.Concerns.{CoversFrom}
 use Rattle.risc_search.proofs.concerns.Concerns.of.Given as goal
 
 abbrev pub invariant-loop-index : goal.invariant-loop-index
-invariant-loop-index l = (k : ℕ) (d : Condition) → k < l.index → Covers l.concerns (get_or l.conditions k d)
+invariant-loop-index l = (first : ℕ) → first < l.index → IsTrue (begins l.conditions first) → CoversFrom l.concerns l.conditions first

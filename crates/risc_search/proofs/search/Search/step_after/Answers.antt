@@ -1,10 +1,11 @@
 use Rattle.std.proofs.Common.{Bool, not, [], ◌≡◌, ◌∙◌, ℕ, Option, ap, subst, sym}
-use Rattle.risc_model.specs.MachineState.{CpuState, State, cpu_state}
+use Rattle.std.specs.Prelude.{IsSome}
+use Rattle.risc_model.specs.MachineState.{State, cpu_state}
 use Rattle.risc_model.specs.Exec.{exec}
 use Rattle.risc_model.specs.Replay.{feed}
 use Rattle.risc_search.specs.declared.access.Access.{Access}
 use Rattle.risc_search.specs.Step.{step_from}
-use Rattle.risc_search.specs.inner.Observed.{AreArmed, HasStoredAlone}
+use Rattle.risc_search.specs.inner.Observed.{word_stored}
 use Rattle.risc_search.proofs.ConditionLemmas.{is_answer, none-armed}
 use Rattle.risc_search.proofs.StepLemmas.{none-of, none-taken, none-there, quiet-feed, stored-word}
 use Rattle.risc_search.proofs.StoreLemmas.{step-alone}
@@ -21,11 +22,9 @@ returns-then-not-any-clause-met c =
     let at = c.args.at in
     let s = c.args.machine.now.state in
     let conditions = c.args.self.now.conditions.now in
-    let P : CpuState → Type 0 = λ (cpu : CpuState). AreArmed conditions cpu c.args.before.now.access [] c.arm-any.new.armed in
-    let Q : Option Access → Type 0 = λ (access : Option Access). HasStoredAlone access s.words (exec (feed es at s)).0.words in
-    none-armed conditions c.arm-any.new.armed c.args.before.now.access [] es (step_from es at s) (subst P c.cpu.ensures.cpu c.arm-any.ensures.armed) c.requires.before.access
+    none-armed conditions c.arm-any.new.armed [] es (step_from es at s) c.arm-any.ensures.armed
     (λ kind. (none-there kind es at, none-taken es at c.requires.quiet kind))
-    (subst Q (sym c.requires.before.access) (step-alone es at s))
+    (step-alone es at s)
     (c.arm-any.ensures.none c.if-not-any.true)
 
 pub returns-clause-state : goal.returns-clause-state
@@ -41,18 +40,16 @@ returns-clause-met c =
     let conditions = c.args.self.now.conditions.now in
     let done : exec (feed es at s) ≡ (c.step.new.self.state, c.in_ok-sent.sent) = ap (λ (x : State). exec x) (quiet-feed es at s c.requires.quiet) ∙ c.in_ok-sent.ensures.exec in
     let state = ap (λ (o : State × Option ℕ). o.0) done in
-    let P : CpuState → Type 0 = λ (cpu : CpuState). AreArmed conditions cpu c.args.before.now.access [] c.arm-any.new.armed in
-    is_answer conditions c.arm-any.new.armed c.args.before.now.access [] (cpu_state c.cpu-2.result.now) c.stored-stored.result c.in_ok-sent.sent es (step_from es at s) c.first_met-met.result
-    (subst P c.cpu.ensures.cpu c.arm-any.ensures.armed)
+    is_answer conditions c.arm-any.new.armed [] (cpu_state c.cpu.result.now) c.stored-stored.result c.in_ok-sent.sent es (step_from es at s) c.first_met-met.result
+    c.arm-any.ensures.armed
     (record {
-      access_is = c.requires.before.access;
       taken_is = λ kind. (none-there kind es at, none-taken es at c.requires.quiet kind);
-      cpu_is = c.cpu-2.ensures.cpu ∙ sym (ap (λ (x : State). x.cpu) state);
+      cpu_is = c.cpu.ensures.cpu ∙ sym (ap (λ (x : State). x.cpu) state);
       change = stored-word c.args.before.now c.stored-stored.result es at s c.step.new.self.state _ c.requires.before (sym state) c.memory.ensures.words c.stored-stored.ensures.change;
       sent_is = sym (ap (λ (o : State × Option ℕ). o.1) done);
-      there = c.stored-stored.ensures.there;
+      there = λ some. subst (λ (access : Option Access). IsSome (word_stored access)) c.requires.before.access (c.stored-stored.ensures.there some);
     })
-    c.first_met-met.ensures.inside c.first_met-met.ensures.met c.first_met-met.ensures.least c.first_met-met.ensures.none
+    c.first_met-met.ensures.met c.first_met-met.ensures.least c.first_met-met.ensures.none
 
 pub returns-then-not-any-clause-silent : goal.returns-then-not-any-clause-silent
 returns-then-not-any-clause-silent c = λ silent.

@@ -1,0 +1,8 @@
+use Rattle.std.proofs.Common.{◌∙◌, false, sym}
+use Rattle.std.proofs.lemmas.Bool.{false≢true}
+use Rattle.risc_search.specs.declared.condition.Condition.TheVariants.{Sends}
+use Rattle.risc_search.proofs.meeting.is_met_at.Goals as goal
+
+pub returns-else-armed-index : goal.returns-else-armed-index
+returns-else-armed-index c =
+    (λ is. absurd (false≢true (sym c.if-armed-index.false ∙ is)), λ met. (met (record { condition = Sends; joined = false })).0)
