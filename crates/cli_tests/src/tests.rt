@@ -8,5 +8,6 @@ mod migrations;
 mod records;
 mod screens;
 mod served;
+mod shards;
 mod timers;
 mod watched;

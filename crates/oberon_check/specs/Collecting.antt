@@ -32,6 +32,11 @@ pub record IsFirstMissing (r : RecordingParts) (vs : List SegmentVerdictRecord) 
   pub before : (s : ℕ) → s < segment → OccursBelow vs (length vs) s
   pub below_failed : (k : ℕ) → k < length vs → IsSome (part_at vs k) → segment < segment_at vs k
 
+-- the number of such a fault (this project's own choice)
+abbrev pub collect_fault_number : CollectFault → ℕ
+collect_fault_number (Double segment) = 1
+collect_fault_number (Missing segment) = 2
+
 -- some segment has two verdicts; or, if none has two, a segment that needs a verdict has none
 abbrev pub IsCollectFault : RecordingParts → List SegmentVerdictRecord → CollectFault → Type 0
 IsCollectFault r vs (Double segment) = IsFirstDouble vs segment

@@ -6,7 +6,7 @@ ghost use Rattle.std.specs.Prelude.{◌≡◌, ◌<◌, ◌≤◌, All, IfOk, If
 ghost use Rattle.oberon_format.specs.Recording.{IsLawful};
 ghost use Rattle.oberon_check.specs.Verdict.{IsVerdict};
 ghost use Rattle.oberon_check.specs.Segment.{IsTrueSegmentVerdict};
-ghost use Rattle.oberon_check.specs.Collecting.{IsFirstDouble, IsCollectFault};
+ghost use Rattle.oberon_check.specs.Collecting.{IsFirstDouble, IsCollectFault, collect_fault_number};
 ghost use Rattle.oberon_check.specs.inner.Tally.{IsFirstUnmarked, IsTally, end_of, lesser_of};
 
 use crate::part::Part;
@@ -18,13 +18,25 @@ use thiserror::Error;
 /// Why no verdict on the recording follows from a list of segment verdicts.
 #[derive(Clone, Copy, Debug, PartialEq, Eq, Error)]
 pub enum CollectFault {
-    /// This segment has two verdicts. It is the first whose second verdict occurs in the list.
+    /// 1: this segment has two verdicts. It is the first whose second verdict occurs in the list.
     #[error("segment {0} has two verdicts")]
     Double(u32),
-    /// No segment has two verdicts, but this one has none. It is the least such segment below the least failed one, or of
+    /// 2: no segment has two verdicts, but this one has none. It is the least such segment below the least failed one, or of
     /// all segments if none failed.
     #[error("segment {0} has no verdict")]
     Missing(u32),
+}
+
+impl CollectFault {
+    /// Returns the fault's number, 1 or 2.
+    pub fn number(self) -> u8
+        ensures { result ≡ collect_fault_number self }
+    {
+        match self {
+            CollectFault::Double(_) => 1,
+            CollectFault::Missing(_) => 2,
+        }
+    }
 }
 
 /// The largest number of segments: one up to each checkpoint but checkpoint 0.

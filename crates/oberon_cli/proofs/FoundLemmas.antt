@@ -1,15 +1,20 @@
 -- What the subcommand that `clap` finds asks for.
-use Rattle.std.proofs.Common.{◌≡◌, ◌≢◌, ℕ, Bool, true, false, List, Option, Some, None, Decides, bytes_eq, codes, refl, box_value, option_and_then, option_map}
+use Rattle.std.proofs.Common.{◌≡◌, ◌≢◌, ℕ, Bool, true, false, List, Option, Some, None, Result, Ok, Err, Decides, bytes_eq, codes, refl, sym, ap, ◌∙◌, box_value, option_and_then, option_map}
 use Rattle.std.proofs.lemmas.Slice.Eq.{bytes_eq-Decides}
 use Rattle.clap.specs.Words.{Text, found_of, rows_of, subcommand_rows_of}
-use Rattle.clap.specs.Walk.{Row}
+use Rattle.clap.specs.Walk.{Row, one_of}
+use Rattle.clap.specs.Matches.{TriesOne}
+use Rattle.oberon_cli.specs.declared.choice.ShardChoice.{ShardChoice}
+use Rattle.oberon_cli.specs.declared.choice.NoShard.{NoShard}
+use Rattle.oberon_cli.specs.inner.Requests.{IsChoice, IsWithinLimits}
 use Rattle.clap.specs.Matches.{subcommand_name_of}
 use Rattle.clap.specs.declared.parser.matches.ArgMatches.{ArgMatches}
 use Rattle.clap.specs.declared.parser.matches.ArgMatches.TheViews.{out-ArgMatches, out-SubCommand}
 use Rattle.oberon_claims.specs.declared.claims.TheConstants.{MAX_WORKERS}
 use Rattle.recording_limits.specs.declared.limits.TheConstants.{LAST_CHECKPOINT}
-use Rattle.oberon_cli.specs.Asked.{number_at, request_of}
-use Rattle.oberon_cli.specs.declared.arguments.Request.TheVariants.{Check, Migrate, Record, Screen}
+use Rattle.oberon_cli.specs.Asked.{check_of, check_with, number_at, request_of, shard_of, whole_check_of}
+use Rattle.oberon_cli.specs.declared.arguments.Request.{Request}
+use Rattle.oberon_cli.specs.declared.arguments.Request.TheVariants.{Check, Combine, Migrate, Record, Screen, Shard}
 
 joined : {B : Type 0} (f : B → Text) (g : B → List Row) (s : Option B) (name : Text) (rows : List Row) → Some name ≡ option_map f s
     → Some rows ≡ option_map (λ (p : Text × List Row). p.1) (option_map {U = Text × List Row} (λ b. (f b, g b)) s) → option_map {U = Text × List Row} (λ b. (f b, g b)) s ≡ Some (name, rows)
@@ -33,10 +38,46 @@ pub asked_record : (o : Option (Text × List Row)) (name : Text) (rows : List Ro
     → Some Record ≡ option_and_then (λ p. request_of p.0 p.1) o
 asked_record o name rows is named = rw (is, named) refl
 
-pub asked_check : (o : Option (Text × List Row)) (name : Text) (rows : List Row) (workers cut : ℕ) → o ≡ Some (name, rows) → name ≡ codes "check"
-    → Some workers ≡ number_at 1 MAX_WORKERS (codes "workers") rows → Some cut ≡ number_at 1 LAST_CHECKPOINT (codes "cut") rows
-    → Some (Check workers cut) ≡ option_and_then (λ p. request_of p.0 p.1) o
-asked_check o name rows workers cut is named one other = rw (is, named, ← one, ← other) refl
+pub asked_check : (o : Option (Text × List Row)) (name : Text) (rows : List Row) (request : Option Request) → o ≡ Some (name, rows) → name ≡ codes "check"
+    → request ≡ check_of rows → request ≡ option_and_then (λ p. request_of p.0 p.1) o
+asked_check o name rows request is named checks = rw (is, named) checks
+
+pub asked_combine : (o : Option (Text × List Row)) (name : Text) (rows : List Row) → o ≡ Some (name, rows) → name ≡ codes "combine"
+    → Some Combine ≡ option_and_then (λ p. request_of p.0 p.1) o
+asked_combine o name rows is named = rw (is, named) refl
+
+pub asked_whole : (rows : List Row) (workers cut : ℕ) → Some workers ≡ number_at 1 MAX_WORKERS (codes "workers") rows
+    → Some cut ≡ number_at 1 LAST_CHECKPOINT (codes "cut") rows → Some (Check workers cut) ≡ whole_check_of rows
+asked_whole rows workers cut one other = rw (← one, ← other) refl
+
+-- what `check` asks for, by what `clap` reads of the option `--shard`
+module _ (o : Option Text) (rows : List Row) (same : o ≡ one_of (codes "shard") rows) (r : Result (Option ShardChoice) NoShard) (none : o ≡ None → r ≡ Ok None)
+    (value : (t : Text) → o ≡ Some t → TriesOne IsChoice t r) where
+  by_text : (request : Option Request) → (o ≡ None → request ≡ whole_check_of rows) → ((t : Text) → o ≡ Some t → request ≡ shard_of t) → request ≡ check_of rows
+  by_text request whole shard = go o refl ∙ ap (λ (x : Option Text). check_with x rows) same
+    where
+      go : (x : Option Text) → o ≡ x → request ≡ check_with o rows
+      go None e = rw e (whole e)
+      go (Some t) e = rw e (shard t e)
+
+  pub chosen : (choice : ShardChoice) → r ≡ Ok (Some choice) → Some (Shard choice.index choice.of) ≡ check_of rows
+  chosen choice is = by_text (Some (Shard choice.index choice.of))
+      (λ e. let bad : Ok (Some choice) ≡ Ok None = sym is ∙ none e in absurd cc)
+      (λ t e. let read : IsChoice t (Ok choice) = rw is at value t e in sym read.0)
+
+  pub chosen_limits : (choice : ShardChoice) → r ≡ Ok (Some choice) → IsWithinLimits (Shard choice.index choice.of)
+  chosen_limits choice is = go o refl
+    where
+      go : (x : Option Text) → o ≡ x → IsWithinLimits (Shard choice.index choice.of)
+      go None e = (let bad : Ok (Some choice) ≡ Ok None = sym is ∙ none e in absurd cc)
+      go (Some t) e = (let read : IsChoice t (Ok choice) = rw is at value t e in read.1)
+
+  pub unchosen : (request : Option Request) → r ≡ Ok None → request ≡ whole_check_of rows → request ≡ check_of rows
+  unchosen request is whole = by_text request (λ e. whole) (λ t e. let bad : ⊥ = rw is at value t e in absurd bad)
+
+  pub no_choice : (why : NoShard) → r ≡ Err why → None ≡ check_of rows
+  no_choice why is = by_text None (λ e. let bad : Err why ≡ Ok None = sym is ∙ none e in absurd cc)
+      (λ t e. let read : IsChoice t (Err why) = rw is at value t e in sym read)
 
 pub asked_screen : (o : Option (Text × List Row)) (name : Text) (rows : List Row) (at : ℕ) → o ≡ Some (name, rows) → name ≡ codes "screen"
     → Some at ≡ number_at 0 LAST_CHECKPOINT (codes "at") rows → Some (Screen at) ≡ option_and_then (λ p. request_of p.0 p.1) o
@@ -49,6 +90,6 @@ different a b differ = go (bytes_eq a b) (bytes_eq-Decides a b)
     go true is = absurd (differ (is.0 refl))
     go false is = refl
 
-pub asked_other : (o : Option (Text × List Row)) (name : Text) (rows : List Row) → o ≡ Some (name, rows) → name ≢ codes "check" → name ≢ codes "record"
+pub asked_other : (o : Option (Text × List Row)) (name : Text) (rows : List Row) → o ≡ Some (name, rows) → name ≢ codes "check" → name ≢ codes "combine" → name ≢ codes "record"
     → name ≢ codes "screen" → name ≢ codes "migrate" → None ≡ option_and_then (λ p. request_of p.0 p.1) o
-asked_other o name rows is a b c d = rw (is, different name _ a, different name _ b, different name _ c, different name _ d) refl
+asked_other o name rows is a b c d e = rw (is, different name _ a, different name _ b, different name _ c, different name _ d, different name _ e) refl

@@ -19,9 +19,13 @@ use Rattle.oberon_cli.specs.Reply.{AnswersAll, IsReplyTo, IsSent, Outcome, answe
 use Rattle.oberon_answers.specs.Migrate.{IsMigration}
 use Rattle.oberon_answers.specs.Record.{IsRecord}
 use Rattle.oberon_answers.specs.Screen.{IsScreen}
+use Rattle.oberon_shards.specs.Combination.{IsCombination, IsShardReport, IsTextFault, IsUncombined, combine_fault_line}
+use Rattle.oberon_shards.specs.declared.fault.CombineFault.{CombineFault}
+use Rattle.oberon_shards.specs.declared.fault.CombineFault.TheVariants.{Long, Syntax, Empty, OtherFile, Contradiction, Missing}
+use Rattle.oberon_shards.specs.declared.fault.TheConstants.{LONGEST_SHARDS}
 use Rattle.oberon_cli.specs.Transfer.{Known}
 use Rattle.oberon_cli.specs.declared.arguments.Request.{Request}
-use Rattle.oberon_cli.specs.declared.arguments.Request.TheVariants.{Check, Migrate, Record, Screen}
+use Rattle.oberon_cli.specs.declared.arguments.Request.TheVariants.{Check, Combine, Migrate, Record, Screen, Shard}
 use Rattle.oberon_cli.specs.declared.failure.Failure.TheVariants.{Memory, Read, Words}
 use Rattle.oberon_format.specs.declared.layout.TheConstants.{LONGEST_RECORDING}
 use Rattle.recording_limits.specs.declared.limits.TheConstants.{LONGEST_SESSION}
@@ -82,6 +86,22 @@ cut_record n bytes text status over within (inl is) =
     absurd cc
 cut_record n bytes text status over within (inr is) = inr (record { fault = is.fault; first = cut_breaks n bytes is.fault over within is.first; refusal = is.refusal })
 
+-- a text that is cut after more bytes than lines of shards may have is refused, as the whole is
+cut_combination : (n : ℕ) (bytes line : List ℕ) (status : ℕ) → LONGEST_SHARDS < n → n ≤ length bytes → IsCombination (take n bytes) line status → IsCombination bytes line status
+cut_combination n bytes line status over within (inl is) = absurd (omega (arith, over, within, simp length-take at is.short))
+cut_combination n bytes line status over within (inr is) = inr (go is.fault is.is_fault is.line_is)
+  where
+    never : length (take n bytes) ≤ LONGEST_SHARDS → ⊥
+    never short = omega (arith, over, within, simp length-take at short)
+
+    go : (f : CombineFault) → IsTextFault (take n bytes) f → line ≡ combine_fault_line f → IsUncombined bytes line status
+    go Long is_fault line_is = record { fault = Long; is_fault = omega (arith, over, within); line_is = line_is; status_is = is.status_is }
+    go (Syntax number) is_fault line_is = absurd (never is_fault.0)
+    go Empty is_fault line_is = absurd (never is_fault.0)
+    go (OtherFile number) is_fault line_is = absurd (never is_fault.0)
+    go (Contradiction one other) is_fault line_is = absurd (never is_fault.0)
+    go (Missing first last) is_fault line_is = absurd (never is_fault.0)
+
 -- a fact of the first n bytes that holds for all of them, if there are more
 whole : (P : List ℕ → Type 0) (n : ℕ) (bytes : List ℕ) → (n ≤ length bytes → P (take n bytes) → P bytes) → P (take n bytes) → P bytes
 whole P n bytes more first = go (nat_lt (length bytes) n) refl
@@ -94,14 +114,19 @@ whole P n bytes more first = go (nat_lt (length bytes) n) refl
 
 -- the answer to the bytes read is the answer to all bytes
 whole_answer : (request : Request) (bytes text : List ℕ) (status : ℕ) → IsAnswer request (take (limit_of request) bytes) text status → IsAnswer request bytes text status
-whole_answer (Check workers cut) bytes text status =
-    whole (λ input. IsLineOf input text status) (LONGEST_RECORDING + 1) bytes (λ within. cut_report (LONGEST_RECORDING + 1) bytes text status (omega arith) within)
-whole_answer Record bytes text status =
-    whole (λ input. IsRecord input text status) (LONGEST_SESSION + 1) bytes (λ within. cut_record (LONGEST_SESSION + 1) bytes text status (omega arith) within)
-whole_answer (Screen at) bytes text status =
-    whole (λ input. IsScreen at input text status) (LONGEST_RECORDING + 1) bytes (λ within. cut_screen (LONGEST_RECORDING + 1) at bytes text status (omega arith) within)
-whole_answer Migrate bytes text status =
-    whole (λ input. IsMigration input text status) (LONGEST_RECORDING + 1) bytes (λ within. cut_migration (LONGEST_RECORDING + 1) bytes text status (omega arith) within)
+whole_answer (Check workers cut) bytes text status first =
+    whole (λ input. IsLineOf input text status) (LONGEST_RECORDING + 1) bytes (λ within. cut_report (LONGEST_RECORDING + 1) bytes text status (omega arith) within) first
+whole_answer (Shard index of) bytes text status first =
+    let fits : length (take (LONGEST_RECORDING + 1) bytes) ≤ LONGEST_RECORDING + 1 = simp length-take (omega arith) in
+    subst (λ (input : List ℕ). IsShardReport input index of text status) (take_all (LONGEST_RECORDING + 1) (take (LONGEST_RECORDING + 1) bytes) fits) first
+whole_answer Combine bytes text status first =
+    whole (λ input. IsCombination input text status) (LONGEST_SHARDS + 1) bytes (λ within. cut_combination (LONGEST_SHARDS + 1) bytes text status (omega arith) within) first
+whole_answer Record bytes text status first =
+    whole (λ input. IsRecord input text status) (LONGEST_SESSION + 1) bytes (λ within. cut_record (LONGEST_SESSION + 1) bytes text status (omega arith) within) first
+whole_answer (Screen at) bytes text status first =
+    whole (λ input. IsScreen at input text status) (LONGEST_RECORDING + 1) bytes (λ within. cut_screen (LONGEST_RECORDING + 1) at bytes text status (omega arith) within) first
+whole_answer Migrate bytes text status first =
+    whole (λ input. IsMigration input text status) (LONGEST_RECORDING + 1) bytes (λ within. cut_migration (LONGEST_RECORDING + 1) bytes text status (omega arith) within) first
 
 -- no arguments are no request for help
 no_help : IsHelp [] → ⊥

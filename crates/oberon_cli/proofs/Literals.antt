@@ -5,7 +5,7 @@ use Rattle.oberon_cli.specs.Asked.{IsHelp, request_in, faults, found}
 use Rattle.oberon_cli.specs.declared.arguments.Refusal.{Refusal}
 use Rattle.oberon_cli.specs.declared.arguments.Refusal.TheVariants.{Help, Words, Memory}
 use Rattle.oberon_cli.specs.declared.arguments.Request.{Request}
-use Rattle.oberon_cli.specs.declared.arguments.Request.TheVariants.{Check, Migrate, Record, Screen}
+use Rattle.oberon_cli.specs.declared.arguments.Request.TheVariants.{Check, Migrate, Record, Screen, Shard}
 use Rattle.oberon_cli.specs.inner.Requests.{RefusedBy}
 
 pub check : request_in (codes "check" ∷ []) ≡ Some (Check 2 1)
@@ -35,6 +35,14 @@ check_workers = refl
 pub check_both : request_in (codes "check" ∷ codes "--cut=4096" ∷ codes "--workers=64" ∷ []) ≡ Some (Check 64 4096)
 unfolding clap_on_literals faults found
 check_both = refl
+
+pub one_shard : request_in (codes "check" ∷ codes "--shard" ∷ codes "2/3" ∷ []) ≡ Some (Shard 2 3)
+unfolding clap_on_literals faults found
+one_shard = refl
+
+pub shard_past_the_last : request_in (codes "check" ∷ codes "--shard=4/3" ∷ []) ≡ None
+unfolding clap_on_literals faults found
+shard_past_the_last = refl
 
 pub recorder : request_in (codes "record" ∷ []) ≡ Some Record
 unfolding clap_on_literals faults found

@@ -9,7 +9,7 @@ use Rattle.oberon_cli.specs.Asked.{whole_number}
 
 module _ {E : Type 0} (G : List ℕ → Result ℕ E → Type 0) (parses : (t : List ℕ) (r : Result ℕ E) → G t r → ParsesUnsigned 32 10 t r)
     (low high : ℕ) (fits : high < 2 ^ 32) where
-  no_number : (t : List ℕ) → ReadsOne G t None → whole_number low high t ≡ None
+  pub no_number : (t : List ℕ) → ReadsOne G t None → whole_number low high t ≡ None
   no_number t h = go (is_unsigned_in low high t) refl
     where
       go : (b : Bool) → is_unsigned_in low high t ≡ b → cond b (Some (digits_value 10 (without_leading_plus t))) None ≡ None
@@ -23,7 +23,7 @@ module _ {E : Type 0} (G : List ℕ → Result ℕ E → Type 0) (parses : (t : 
   no_text None read = refl
   no_text (Some t) read = no_number t (read t refl)
 
-  in_range : (t : List ℕ) (n : ℕ) → ReadsOne G t (Some n) → low ≤ n → n ≤ high → whole_number low high t ≡ Some n
+  pub in_range : (t : List ℕ) (n : ℕ) → ReadsOne G t (Some n) → low ≤ n → n ≤ high → whole_number low high t ≡ Some n
   in_range t n h above below =
       let read = parses t (Ok n) h in
       let is : n ≡ digits_value 10 (without_leading_plus t) = read.1 in
@@ -31,7 +31,7 @@ module _ {E : Type 0} (G : List ℕ → Result ℕ E → Type 0) (parses : (t : 
       Accepts-accepts false (vp.Unsigned low high) t (read.0.0, omega arith, omega arith, omega arith) in
       rw (passed, ← is) refl
 
-  out_of_range : (t : List ℕ) (n : ℕ) → ReadsOne G t (Some n) → (low ≤ n → n ≤ high → ⊥) → whole_number low high t ≡ None
+  pub out_of_range : (t : List ℕ) (n : ℕ) → ReadsOne G t (Some n) → (low ≤ n → n ≤ high → ⊥) → whole_number low high t ≡ None
   out_of_range t n h out = go (is_unsigned_in low high t) refl
     where
       go : (b : Bool) → is_unsigned_in low high t ≡ b → cond b (Some (digits_value 10 (without_leading_plus t))) None ≡ None

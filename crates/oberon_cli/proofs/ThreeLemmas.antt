@@ -7,6 +7,10 @@ use Rattle.oberon_check.specs.Headline.{IsLineOf}
 use Rattle.oberon_check.specs.Line.{status_of}
 use Rattle.oberon_check.specs.declared.verdict.Verdict.{Verdict}
 use Rattle.oberon_check.specs.declared.verdict.Verdict.TheVariants.{Accepted, FalseAt}
+use Rattle.oberon_shards.specs.Combination.{IsCombination}
+use Rattle.oberon_shards.specs.Shard.{finding_status}
+use Rattle.oberon_shards.specs.declared.shard.Finding.{Finding}
+use Rattle.oberon_shards.specs.declared.shard.Finding.TheVariants as finding
 use Rattle.oberon_cli.specs.Answer.{IsAnswer}
 use Rattle.oberon_cli.specs.Transfer.{Known, Fails, GainsWhole, Goes}
 use Rattle.oberon_answers.specs.Migrate.{IsMigration}
@@ -14,7 +18,7 @@ use Rattle.oberon_answers.specs.Record.{IsRecord, IsRecordOf}
 use Rattle.oberon_cli.specs.Reply.{IsReplyTo, IsSent, IsThreeForFaults, Outcome, answer, failure, failure_line, help}
 use Rattle.oberon_answers.specs.Screen.{IsScreen, IsScreenOf}
 use Rattle.oberon_cli.specs.declared.arguments.Request.{Request}
-use Rattle.oberon_cli.specs.declared.arguments.Request.TheVariants.{Check, Migrate, Record, Screen}
+use Rattle.oberon_cli.specs.declared.arguments.Request.TheVariants.{Check, Combine, Migrate, Record, Screen, Shard}
 use Rattle.oberon_cli.specs.declared.failure.Failure.TheVariants.{Memory, Read, Words}
 
 verdict_status : (verdict : Verdict) → status_of verdict < 3
@@ -45,9 +49,20 @@ migration_status : (input text : List ℕ) (status : ℕ) → IsMigration input 
 migration_status input text status (inl is) = omega (arith, is.status_is)
 migration_status input text status (inr is) = omega (arith, is.status_is)
 
+finding_low : (f : Finding) → finding_status f < 3
+finding_low finding.Holds = omega arith
+finding_low finding.Fails = omega arith
+finding_low finding.Refused = omega arith
+
+combination_status : (input text : List ℕ) (status : ℕ) → IsCombination input text status → status < 3
+combination_status input text status (inl is) = omega (arith, is.status_is, finding_low is.shard.finding)
+combination_status input text status (inr is) = omega (arith, is.status_is)
+
 -- a command's own answer has another status
 answer_status : (request : Request) (input text : List ℕ) (status : ℕ) → IsAnswer request input text status → status < 3
 answer_status (Check workers cut) input text status is = line_status input text status is
+answer_status (Shard index of) input text status is = omega (arith, is.status_is)
+answer_status Combine input text status is = combination_status input text status is
 answer_status Record input text status is = record_status input text status is
 answer_status (Screen at) input text status is = screen_status at input text status is
 answer_status Migrate input text status is = migration_status input text status is

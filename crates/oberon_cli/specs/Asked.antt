@@ -1,5 +1,6 @@
 -- What the arguments of the command line ask for.
-use Rattle.std.specs.Prelude.{◌≡◌, ◌≢◌, ℕ, List, [], ◌∷◌, Option, Some, None, option_map, option_and_then, if◌then◌else◌, codes}
+use Rattle.std.specs.Prelude.{◌≡◌, ◌≢◌, ◌==◌, ℕ, List, [], ◌∷◌, Option, Some, None, option_map, option_and_then, if◌then◌else◌, codes}
+use Rattle.std.specs.List.{after_first, before_first}
 use Rattle.std.specs.Str.{bytes_eq}
 use Rattle.std.specs.Str.Parse.{digits_value, without_leading_plus}
 use Rattle.clap.specs.ValueTests.{is_unsigned_in}
@@ -10,8 +11,9 @@ use Rattle.clap.specs.Faults.{fault_of}
 use Rattle.clap.specs.declared.error.kind.ErrorKind.TheVariants.{DisplayHelp}
 use Rattle.oberon_cli.specs.Program.{program_app}
 use Rattle.oberon_cli.specs.declared.arguments.Request.{Request}
-use Rattle.oberon_cli.specs.declared.arguments.Request.TheVariants.{Check, Migrate, Record, Screen}
+use Rattle.oberon_cli.specs.declared.arguments.Request.TheVariants.{Check, Combine, Migrate, Record, Screen, Shard}
 use Rattle.oberon_claims.specs.declared.claims.TheConstants.{MAX_WORKERS}
+use Rattle.oberon_shards.specs.declared.border.TheConstants.{MAX_SHARDS}
 use Rattle.recording_limits.specs.declared.limits.TheConstants.{LAST_CHECKPOINT}
 
 -- the number that the string writes in decimal digits, with an optional plus sign, if it is in the range
@@ -23,15 +25,30 @@ whole_number low high text =
 abbrev pub number_at : ℕ → ℕ → Text → List Row → Option ℕ
 number_at low high id rows = option_and_then (whole_number low high) (one_of id rows)
 
+-- shard K of N, as `K/N` says it: N from 1 to 4,096, and K from 1 to N
+abbrev pub shard_of : Text → Option Request
+shard_of text = option_and_then (λ of. option_map (λ index. Shard index of) (whole_number 1 of (before_first (λ c. c == 47) text)))
+    (whole_number 1 MAX_SHARDS (after_first (λ c. c == 47) text))
+
 -- a check with the numbers of workers and of segments in a job that `clap` finds
-abbrev pub check_of : List Row → Option Request
-check_of rows = option_and_then (λ workers. option_map (λ cut. Check workers cut)
+abbrev pub whole_check_of : List Row → Option Request
+whole_check_of rows = option_and_then (λ workers. option_map (λ cut. Check workers cut)
     (number_at 1 LAST_CHECKPOINT (codes "cut") rows)) (number_at 1 MAX_WORKERS (codes "workers") rows)
+
+-- the shard that `clap` finds, or such a check if it finds none
+abbrev pub check_with : Option Text → List Row → Option Request
+check_with (Some text) rows = shard_of text
+check_with None rows = whole_check_of rows
+
+-- what `check` with its options asks for
+abbrev pub check_of : List Row → Option Request
+check_of rows = check_with (one_of (codes "shard") rows) rows
 
 -- what a subcommand with its options asks for
 abbrev pub request_of : Text → List Row → Option Request
 request_of name rows =
     if bytes_eq name (codes "check") then check_of rows
+    else if bytes_eq name (codes "combine") then Some Combine
     else if bytes_eq name (codes "record") then Some Record
     else if bytes_eq name (codes "screen") then option_map Screen (number_at 0 LAST_CHECKPOINT (codes "at") rows)
     else if bytes_eq name (codes "migrate") then Some Migrate

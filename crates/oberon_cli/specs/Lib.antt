@@ -4,4 +4,5 @@ pub mod Asked
 pub mod Answer
 pub mod Transfer
 pub mod Reply
+pub mod Laws
 pub mod inner

@@ -24,9 +24,13 @@ cut_rule = record (number_rule (codes "cut")) { defaults = codes "1" ∷ []; par
 abbrev pub at_rule : Rule
 at_rule = record (number_rule (codes "at")) { required = true; parser = Some (Signed (pos 0) (pos LAST_CHECKPOINT)) }
 
--- `check`, with its two options
+-- `check`, with its three options: `--shard` takes a text, which says which of how many
 abbrev pub check_app : App
-check_app = with_rule (with_rule (new_app (codes "check")) workers_rule) cut_rule
+check_app = with_rule (with_rule (with_rule (new_app (codes "check")) workers_rule) cut_rule) (number_rule (codes "shard"))
+
+-- `combine`, with none
+abbrev pub combine_app : App
+combine_app = new_app (codes "combine")
 
 -- `record`, with none
 abbrev pub record_app : App
@@ -40,14 +44,16 @@ screen_app = with_rule (new_app (codes "screen")) at_rule
 abbrev pub migrate_app : App
 migrate_app = new_app (codes "migrate")
 
--- one of four commands is required, with no program name before it
+-- one of five commands is required, with no program name before it
 abbrev pub program_shape : Shape
 program_shape =
     record (new_shape (codes "oberon_replay")) { no_binary_name = true; subcommand_required = true }
 
--- the program: this shape, and the four commands in their order
+-- the program: this shape, and the five commands in their order
 abbrev pub program_app : App
 program_app =
     with_subcommand
-    (with_subcommand (with_subcommand (with_subcommand (record { top = program_shape; subs = [] }) check_app.top) record_app.top) screen_app.top)
+    (with_subcommand
+    (with_subcommand (with_subcommand (with_subcommand (record { top = program_shape; subs = [] }) check_app.top) combine_app.top) record_app.top)
+    screen_app.top)
     migrate_app.top

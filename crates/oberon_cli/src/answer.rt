@@ -1,11 +1,12 @@
 //! What each command answers to the bytes of its input. Reading them, and writing the answer, is in `service`.
-ghost use Rattle.std.specs.Prelude.{IfOk};
+ghost use Rattle.std.specs.Prelude.{◌≡◌, IfOk};
 ghost use Rattle.oberon_cli.specs.Answer.{IsAnswer};
 ghost use Rattle.oberon_cli.specs.inner.Requests.{IsWithinLimits};
 
 use crate::arguments::Request;
 use oberon_answers::{Answer, migrate, record, screen};
 use oberon_check::{CheckFault, FreeGate, Report, check_bytes};
+use oberon_shards::{combine_lines, shard_line};
 use std::alloc::{AllocError, Global};
 use std::sync::Wait;
 use std::thread::Threads;
@@ -23,15 +24,28 @@ pub fn answer<H: Threads + Wait + Sync>(
     match request {
         Request::Check { workers, cut } => {
             match check_bytes(rt, alloc, bytes, workers, cut, &FreeGate) {
-                Ok(Report { line, status }) => Ok(Answer {
-                    bytes: line,
-                    status,
-                }),
+                Ok(report) => Ok(reported(report)),
                 Err(CheckFault::Memory) => Err(AllocError),
             }
         }
+        Request::Shard { index, of } => {
+            let input = &bytes[..bytes.len().min(request.limit())];
+            Ok(reported(shard_line(alloc, input, index, of)?))
+        }
+        Request::Combine => Ok(reported(combine_lines(alloc, bytes)?)),
         Request::Record => record(alloc, bytes),
         Request::Screen { at } => screen(alloc, bytes, at),
         Request::Migrate => migrate(alloc, bytes),
+    }
+}
+
+/// Returns a line with its status as an answer.
+fn reported(report: Report) -> Answer
+    ensures { (result.bytes.items ≡ report.line.items) × (result.status ≡ report.status) }
+{
+    let Report { line, status } = report;
+    Answer {
+        bytes: line,
+        status,
     }
 }

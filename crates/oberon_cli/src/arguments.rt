@@ -2,14 +2,16 @@
 ghost use Rattle.std.specs.Prelude.{◌≡◌, ◌≤◌, ◌<◌, Some, IfSome, length, map, IfOk, IfErr, option_and_then};
 ghost use Rattle.clap.specs.Words.{found_of, kind_of, rows_of, subcommand_rows_of};
 ghost use Rattle.oberon_cli.specs.inner.Requests.{IsWithinLimits, RefusedBy, refusal_by};
-ghost use Rattle.oberon_cli.specs.Asked.{request_in, number_at, request_of};
+ghost use Rattle.oberon_cli.specs.Asked.{check_of, request_in, number_at, request_of, whole_check_of};
 
+use crate::choice::ShardChoice;
 use crate::command::program;
 use clap::error::ErrorKind;
 use clap::{ArgMatches, Error};
 use oberon_claims::MAX_WORKERS;
 use oberon_format::{LAST_CHECKPOINT, LONGEST_RECORDING};
 use oberon_session::LONGEST_SESSION;
+use oberon_shards::LONGEST_SHARDS;
 use std::alloc::{AllocError, Global};
 
 /// One byte more than the longest recording file. A longer input has a fault within these bytes, and no rule looks at a later
@@ -19,11 +21,18 @@ const RECORDING_LIMIT: usize = LONGEST_RECORDING + 1;
 /// One byte more than the longest file of a session. A longer input is refused for its length alone.
 const SESSION_LIMIT: usize = LONGEST_SESSION + 1;
 
+/// One byte more than the longest text of shards' lines. A longer input is refused for its length alone.
+const SHARDS_LIMIT: usize = LONGEST_SHARDS + 1;
+
 /// What the program is to do.
 #[derive(Clone, Copy)]
 pub enum Request {
     /// Check the recording that is read: with 1 to 64 workers, in jobs of 1 to 4,096 consecutive segments.
     Check { workers: u32, cut: u32 },
+    /// Check a shard of the recording that is read: shard `index` of `of`, from 1, of 4,096 at most.
+    Shard { index: u32, of: u32 },
+    /// Combine the lines of shards that are read.
+    Combine,
     /// Record the session that is read.
     Record,
     /// Show the screen that a checkpoint of the recording that is read claims: checkpoint `at`, from 0 to 4,096.
@@ -41,8 +50,12 @@ impl Request {
         ensures { result ≡ limit_of self }
     {
         match self {
-            Request::Check { .. } | Request::Screen { .. } | Request::Migrate => RECORDING_LIMIT,
+            Request::Check { .. }
+            | Request::Shard { .. }
+            | Request::Screen { .. }
+            | Request::Migrate => RECORDING_LIMIT,
             Request::Record => SESSION_LIMIT,
+            Request::Combine => SHARDS_LIMIT,
         }
     }
 }
@@ -112,10 +125,8 @@ fn request_of(matches: &ArgMatches<'_>) -> Option<Request>
 {
     let (name, inner) = matches.subcommand()?;
     match name {
-        "check" => Some(Request::Check {
-            workers: whole_number(inner, "workers", 1, MAX_WORKERS)?,
-            cut: whole_number(inner, "cut", 1, LAST_CHECKPOINT)?,
-        }),
+        "check" => check_of(inner),
+        "combine" => Some(Request::Combine),
         "record" => Some(Request::Record),
         "screen" => Some(Request::Screen {
             at: whole_number(inner, "at", 0, LAST_CHECKPOINT)?,
@@ -123,6 +134,32 @@ fn request_of(matches: &ArgMatches<'_>) -> Option<Request>
         "migrate" => Some(Request::Migrate),
         _ => None,
     }
+}
+
+/// Returns what `check` with these options asks for. The numbers of workers and of segments in a job say nothing of a shard.
+fn check_of(matches: &ArgMatches<'_>) -> Option<Request>
+    ensures value { result ≡ check_of (rows_of (found_of matches.now)) }
+    ensures limits { IfSome result IsWithinLimits }
+{
+    match matches.try_get_one::<ShardChoice>("shard") {
+        Ok(Some(choice)) => Some(Request::Shard {
+            index: choice.index,
+            of: choice.of,
+        }),
+        Ok(None) => whole_check_of(matches),
+        Err(_) => None,
+    }
+}
+
+/// Returns a check of the whole recording, with these options.
+fn whole_check_of(matches: &ArgMatches<'_>) -> Option<Request>
+    ensures value { result ≡ whole_check_of (rows_of (found_of matches.now)) }
+    ensures limits { IfSome result IsWithinLimits }
+{
+    Some(Request::Check {
+        workers: whole_number(matches, "workers", 1, MAX_WORKERS)?,
+        cut: whole_number(matches, "cut", 1, LAST_CHECKPOINT)?,
+    })
 }
 
 /// Tests the range of a number again, which `clap` has tested: `number_at` speaks of any rows.

@@ -4,7 +4,7 @@ ghost use Rattle.std.specs.Prelude.{◌≡◌, IfOk, false};
 ghost use Rattle.clap.specs.Simple.{new_app};
 ghost use Rattle.clap.specs.Words.{app_of, rule_of};
 ghost use Rattle.oberon_cli.specs.Program.{at_rule, cut_rule, number_rule, workers_rule};
-ghost use Rattle.oberon_cli.specs.Program.{check_app, migrate_app, program_app, record_app, screen_app};
+ghost use Rattle.oberon_cli.specs.Program.{check_app, combine_app, migrate_app, program_app, record_app, screen_app};
 ghost use Rattle.clap.specs.declared.builder.command.Command.TheViews.{out-Command as fields_of};
 
 use clap::{Arg, ArgAction, Command, value_parser};
@@ -12,7 +12,7 @@ use oberon_claims::MAX_WORKERS;
 use oberon_format::LAST_CHECKPOINT;
 use std::alloc::{AllocError, Global};
 
-/// Returns the command line of the program: one of four commands, with no program name before it.
+/// Returns the command line of the program: one of five commands, with no program name before it.
 pub fn program<'a>(alloc: Global) -> Result<Command<'a>, AllocError>
     ensures app { IfOk result (λ command. app_of command ≡ program_app) }
 {
@@ -27,6 +27,7 @@ pub fn program<'a>(alloc: Global) -> Result<Command<'a>, AllocError>
         .no_binary_name(true)
         .subcommand_required(true)
         .subcommand(check)?
+        .subcommand(combine(alloc))?
         .subcommand(record(alloc))?
         .subcommand(screen)?
         .subcommand(migrate(alloc))
@@ -43,7 +44,25 @@ fn check<'a>(alloc: Global) -> Result<Command<'a>, AllocError>
         "Example:\n  oberon_replay check --workers 4 <face.orsr",
     )
     .arg(workers(alloc))?
-    .arg(cut(alloc))
+    .arg(cut(alloc))?
+    .arg(number(
+        alloc,
+        "shard",
+        "K/N",
+        "Replay only shard K of N, with one worker, and print its line for combine",
+    ))
+}
+
+fn combine<'a>(alloc: Global) -> Command<'a>
+    ensures app { app_of result ≡ combine_app }
+    ensures local { (fields_of result).has_globals ≡ false }
+{
+    command(
+        alloc,
+        "combine",
+        "Reads the lines of the shards of a recording, in any order, and prints its verdict",
+        "Example:\n  for k in 1 2 3; do oberon_replay check --shard $k/3 <face.orsr; done | oberon_replay combine",
+    )
 }
 
 fn record<'a>(alloc: Global) -> Command<'a>
@@ -133,7 +152,7 @@ fn at<'a>(alloc: Global) -> Arg<'a>
     .value_parser(value_parser!(u32).range(0..=LAST_CHECKPOINT as i64))
 }
 
-/// Returns an option that takes a number, with its help text; the range is not set yet.
+/// Returns an option that takes one value, with its help text; no range is set yet.
 fn number<'a>(alloc: Global, name: &'a str, value_name: &'a str, help: &'a str) -> Arg<'a>
     ensures rule { rule_of result ≡ number_rule name.entry.now }
     ensures local { result.global ≡ false }

@@ -8,14 +8,17 @@
 
 mod answer;
 mod arguments;
+mod choice;
 mod command;
 mod failure;
+mod laws;
 mod process;
 mod service;
 mod sink;
 mod source;
 
 pub use failure::Failure;
+pub use laws::defaults_law;
 pub use process::{fail, process_arguments, run, texts};
 pub use service::{refuse, serve};
 pub use sink::{Sink, WriteFault};

@@ -21,6 +21,8 @@ use std::thread::Threads;
 /// | arguments | what is written | status |
 /// |---|---|---|
 /// | none, or `check` with its options | the line of the check | 0 accepted, 1 false, 2 refused |
+/// | `check --shard K/N` | the line of shard K of N | 0, whatever it found |
+/// | `combine` | the line that lines of shards combine to; or the line of their first fault | that of `check`; 2 |
 /// | `record` | the session's recording; the line of a fault of the session; or the line of the recorder's fault | 0; 2; 2 |
 /// | `screen --at k` | the picture of the screen that checkpoint k claims; the line of a fault; or `no checkpoint k` | 0; 2; 2 |
 /// | `migrate` | the same recording in the current version; or the line of a fault | 0; 2 |

@@ -60,6 +60,12 @@ fn messages_of_faults(rt: HostRuntime) -> Result<(), Fail> {
 }
 
 #[test]
+fn numbers_of_faults(rt: HostRuntime) {
+    assert!(rt; CollectFault::Double(3).number() == 1);
+    assert!(rt; CollectFault::Missing(3).number() == 2);
+}
+
+#[test]
 fn message_of_a_failed_allocation(rt: HostRuntime) -> Result<(), Fail> {
     let same = is_printed(rt.alloc(), &CheckFault::Memory, "there is no memory")?;
     assert!(rt; same, "another message");

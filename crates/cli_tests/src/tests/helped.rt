@@ -6,7 +6,7 @@ use std::sync::Wait;
 use std::thread::Threads;
 
 /// Arguments that ask for nothing.
-const REFUSED: [&[&str]; 15] = [
+const REFUSED: [&[&str]; 22] = [
     &["screen"],
     &["screen", "--at", "4097"],
     &["screen", "--at", "-0"],
@@ -14,6 +14,13 @@ const REFUSED: [&[&str]; 15] = [
     &["check", "--workers", "0"],
     &["check", "--cut", "4097"],
     &["check", "--cut", "0"],
+    &["check", "--shard", "0/3"],
+    &["check", "--shard", "4/3"],
+    &["check", "--shard", "1/4097"],
+    &["check", "--shard", "1"],
+    &["check", "--shard", "/2"],
+    &["check", "--shard", "1/2/2"],
+    &["combine", "again"],
     &["bogus"],
     &["help", "bogus"],
     &["check", "again"],
@@ -33,7 +40,7 @@ struct Help {
     example: &'static [u8],
 }
 
-const HELP: [Help; 5] = [
+const HELP: [Help; 6] = [
     Help {
         arguments: &["--help"],
         usage: b"Usage: oberon_replay <COMMAND>\n",
@@ -43,6 +50,11 @@ const HELP: [Help; 5] = [
         arguments: &["check", "--help"],
         usage: b"Usage: oberon_replay check [OPTIONS]\n",
         example: b"\nExample:\n  oberon_replay check --workers 4 <face.orsr\n",
+    },
+    Help {
+        arguments: &["combine", "--help"],
+        usage: b"Usage: oberon_replay combine\n",
+        example: b"\nExample:\n  for k in 1 2 3; do oberon_replay check --shard $k/3 <face.orsr; done | oberon_replay combine\n",
     },
     Help {
         arguments: &["record", "-h"],
@@ -62,7 +74,7 @@ const HELP: [Help; 5] = [
 ];
 
 /// The commands, each of which the help lists.
-const COMMANDS: [&[u8]; 4] = [b"check", b"migrate", b"record", b"screen"];
+const COMMANDS: [&[u8]; 5] = [b"check", b"combine", b"migrate", b"record", b"screen"];
 
 #[test]
 fn refuses_arguments(rt: HostRuntime) {

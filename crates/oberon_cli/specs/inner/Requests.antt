@@ -1,26 +1,36 @@
 -- The numbers of a request, why its arguments are refused, and the reply to them.
-use Rattle.std.specs.Prelude.{◌≡◌, ◌≤◌, List, ⊤}
+use Rattle.std.specs.Prelude.{ℕ, ◌≡◌, ◌≤◌, List, Some, None, Result, Ok, Err, ⊤}
 use Rattle.clap.specs.Walk.{Text}
 use Rattle.clap.specs.declared.error.Error.{Error}
 use Rattle.clap.specs.declared.error.kind.ErrorKind.{ErrorKind}
 use Rattle.clap.specs.declared.error.kind.ErrorKind.TheVariants.{DisplayHelp, OutOfMemory}
 use Rattle.oberon_cli.specs.declared.arguments.Request.{Request}
-use Rattle.oberon_cli.specs.declared.arguments.Request.TheVariants.{Check, Migrate, Record, Screen}
+use Rattle.oberon_cli.specs.declared.arguments.Request.TheVariants.{Check, Combine, Migrate, Record, Screen, Shard}
 use Rattle.oberon_cli.specs.declared.arguments.Refusal.{Refusal}
 use Rattle.oberon_cli.specs.declared.arguments.Refusal.TheVariants.{Help, Words, Memory}
+use Rattle.oberon_cli.specs.declared.choice.ShardChoice.{ShardChoice}
+use Rattle.oberon_cli.specs.declared.choice.NoShard.{NoShard}
+use Rattle.oberon_shards.specs.declared.border.TheConstants.{MAX_SHARDS}
 use Rattle.oberon_claims.specs.declared.claims.TheConstants.{MAX_WORKERS}
 use Rattle.recording_limits.specs.declared.limits.TheConstants.{LAST_CHECKPOINT}
 use Rattle.oberon_answers.specs.declared.answer.Answer.{Answer}
-use Rattle.oberon_cli.specs.Asked.{IsHelp, IsRefused}
+use Rattle.oberon_cli.specs.Asked.{IsHelp, IsRefused, shard_of}
 use Rattle.oberon_cli.specs.Reply.{IsReplyTo, Outcome, outcome_status, outcome_text}
 use Rattle.oberon_cli.specs.Transfer.{Known}
 
 -- the numbers of a request are in their ranges
 abbrev pub IsWithinLimits : Request → Type 0
 IsWithinLimits (Check workers cut) = (1 ≤ workers) × (workers ≤ MAX_WORKERS) × (1 ≤ cut) × (cut ≤ LAST_CHECKPOINT)
+IsWithinLimits (Shard index of) = (1 ≤ index) × (index ≤ of) × (of ≤ MAX_SHARDS)
+IsWithinLimits Combine = ⊤
 IsWithinLimits Record = ⊤
 IsWithinLimits (Screen at) = at ≤ LAST_CHECKPOINT
 IsWithinLimits Migrate = ⊤
+
+-- the shard that a text chooses, or an error if it chooses none
+abbrev pub IsChoice : List ℕ → Result ShardChoice NoShard → Type 0
+IsChoice text (Ok choice) = (shard_of text ≡ Some (Shard choice.index choice.of)) × IsWithinLimits (Shard choice.index choice.of)
+IsChoice text (Err why) = shard_of text ≡ None
 
 -- the refusal that an error of `clap` means
 abbrev pub refusal_by : ErrorKind → Error → Refusal

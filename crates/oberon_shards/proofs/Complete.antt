@@ -1,0 +1,109 @@
+-- If all shards of a recording are there, none is missing.
+use Rattle.std.proofs.Common.{◌≡◌, ℕ, zero, suc, ◌+◌, ◌-◌, ◌*◌, ◌<◌, ◌≤◌, List, refl, ap, subst, arith, inl, inr, length}
+use Rattle.std.specs.Prelude.{All}
+use Rattle.std.proofs.lemmas.Bool.{cases_lt}
+use Rattle.std.proofs.Math.Nat.{mul-le-mul_left}
+use Rattle.oberon_format.specs.Laws.{HasFileOrFault, HasOneRecording}
+use Rattle.oberon_format.specs.Recording.{RecordingParts, IsLawful, count_at, last_of}
+use Rattle.oberon_format.specs.Text.{Text}
+use Rattle.oberon_check.specs.Segment.{replayed}
+use Rattle.oberon_format.specs.Defined.{claimed}
+use Rattle.oberon_check.proofs.Parts.{not_first}
+use Rattle.oberon_shards.specs.declared.shard.Shard.{Shard}
+use Rattle.oberon_shards.specs.declared.shard.Finding.{Finding}
+use Rattle.oberon_shards.specs.declared.shard.Finding.TheVariants.{Holds, Fails, Refused}
+use Rattle.oberon_shards.specs.Border.{IsBetween, IsBorder}
+use Rattle.oberon_shards.specs.Combining.{IsMissing, IsOneOf}
+use Rattle.oberon_shards.specs.Laws.{HasIndexed, IsComplete}
+use Rattle.oberon_shards.specs.Shard.{IsFailed, IsShardOf}
+use Rattle.oberon_shards.proofs.Members.{found_of, last_is, not_refused, of_member, segment_holds}
+
+-- counts rise
+counts_rise : (r : RecordingParts) → IsLawful r → (k m : ℕ) → k < m → m < length r.checkpoints → count_at r k < count_at r m
+counts_rise r lawful k zero lt inside = absurd (omega arith)
+counts_rise r lawful k (suc m) lt inside =
+    let e : suc m ≡ m + 1 = omega arith in
+    let step : count_at r m < count_at r (m + 1) = lawful.rises m (omega arith) in
+    let last : count_at r (suc m) ≡ count_at r (m + 1) = ap (count_at r) e in
+    elim (cases_lt k m) [
+      | inl less ↦ (let before = counts_rise r lawful k m less (omega arith) in omega (arith, before, step, last))
+      | inr more ↦ (let same : count_at r k ≡ count_at r m = ap (count_at r) (omega arith) in omega (arith, same, step, last))
+    ]
+
+-- there is one border
+one_border : (r : RecordingParts) (i of a b : ℕ) → IsBorder r i of a → IsBorder r i of b → a ≤ b
+one_border r i of a b low high =
+    elim (cases_lt b a) [
+      | inl less ↦ (let below = low.before b less in let above = high.after in absurd (omega (arith, below, above)))
+      | inr more ↦ more
+    ]
+
+-- the first border is the beginning
+first_border : (r : RecordingParts) (of b : ℕ) → IsBorder r 0 of b → b ≤ 0
+first_border r of b is =
+    elim (cases_lt 0 b) [
+      | inl less ↦ (let below = is.before 0 less in absurd (omega (arith, below)))
+      | inr more ↦ more
+    ]
+
+-- the last border is the end
+last_border : (r : RecordingParts) → IsLawful r → (of b : ℕ) → 1 ≤ of → IsBorder r of of b → last_of r ≤ b
+last_border r lawful of b some is =
+    elim (cases_lt b (last_of r)) [
+      | inl less ↦
+          let rises : count_at r b < count_at r (last_of r) = counts_rise r lawful b (last_of r) less (omega (arith, lawful.some)) in
+          let product : of * (count_at r b + 1) ≤ of * count_at r (last_of r) = mul-le-mul_left of (omega (arith, rises)) in
+          absurd (omega (arith, product, is.after, some))
+      | inr more ↦ more
+    ]
+
+module _ (one : HasOneRecording) (bytes : List ℕ) (r : RecordingParts) (shards : List Shard) (of : ℕ) (text : Text bytes r) (all : All (IsShardOf bytes) shards)
+    (segment last : ℕ) (missing : IsMissing shards segment last) where
+  -- a shard that begins at or before the missing segment ends at or before it
+  ends_before : (index : ℕ) (s : Shard) → IsOneOf shards s → (between : IsBetween r index of s) → s.from ≤ segment → between.end ≤ segment
+  ends_before index s is_one between from = by_finding s.finding refl
+    where
+      is : IsShardOf bytes s
+      is = of_member (IsShardOf bytes) shards s all is_one
+
+      gap : s.to ≤ segment
+      gap = elim (cases_lt segment s.to) [
+        | inl less ↦ absurd (of_member (λ x. (k : ℕ) → segment ≤ k → k ≤ last → ¬ ((x.from ≤ k) × (k < x.to))) shards s missing.missing is_one segment (omega arith) missing.order (from, less))
+        | inr more ↦ more
+      ]
+
+      by_finding : (f : Finding) → s.finding ≡ f → between.end ≤ segment
+      by_finding Holds e = omega (arith, between.to_is e, gap)
+      by_finding Fails e =
+          let found = found_of bytes s Fails is e in
+          let same : found.0 ≡ r = one bytes found.0 r found.1 text in
+          let failed : IsFailed r s = subst (λ (q : RecordingParts). IsFailed q s) same found.2 in
+          let held : claimed r (failed.failed + 1) ≡ replayed r failed.failed =
+          segment_holds one bytes shards all r text failed.failed (missing.before failed.failed (omega (arith, failed.to_is, gap))) in
+          absurd (not_first (claimed r (failed.failed + 1)) (replayed r failed.failed) failed.part held failed.fails)
+      by_finding Refused e = absurd (between.read e)
+
+  all_before : ((index : ℕ) → 1 ≤ index → index ≤ of → HasIndexed r shards of index) → (n b : ℕ) → n ≤ of → IsBorder r n of b → b ≤ segment
+  all_before have zero b small is = omega (arith, first_border r of b is)
+  all_before have (suc n) b small is =
+      let h = have (suc n) (omega arith) small in
+      let s : Shard = h.0 in
+      let between = h.2 in
+      let before : suc n - 1 ≡ n = omega arith in
+      let from : s.from ≤ segment = all_before have n s.from (omega arith) (subst (λ (k : ℕ). IsBorder r k of s.from) before between.from_is) in
+      let end = ends_before (suc n) s h.1 between from in
+      omega (arith, one_border r (suc n) of b between.end is between.end_is, end)
+
+pub complete : HasOneRecording → HasFileOrFault → IsComplete
+complete one either bytes r shards of text all some have segment last missing =
+    let h = have of some (omega arith) in
+    let s : Shard = h.0 in
+    let between = h.2 in
+    let end : between.end ≤ segment = all_before one bytes r shards of text all segment last missing have of between.end (omega arith) between.end_is in
+    let whole : last_of r ≤ between.end = last_border r text.is.lawful of between.end some between.end_is in
+    let first : Shard = missing.shard in
+    let is_first : IsOneOf shards first = (0, omega (arith, h.1.1), missing.is_first) in
+    let is : IsShardOf bytes first = of_member (IsShardOf bytes) shards first all is_first in
+    let segments : first.last ≡ last_of r = last_is one bytes first is (not_refused either bytes r text first is) r text in
+    let inside : segment < first.last = omega (arith, missing.order, missing.inside) in
+    absurd (omega (arith, end, whole, inside, segments))

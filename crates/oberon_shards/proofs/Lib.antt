@@ -1,0 +1,9 @@
+pub mod Lines
+pub mod Members
+pub mod Apart
+pub mod Stretches
+pub mod Complete
+pub mod Fields
+pub mod Printed
+pub mod Texts
+pub mod OneReading

@@ -1,0 +1,22 @@
+//! The laws of this crate's definitions, each the contract of a function that does nothing.
+ghost use Rattle.oberon_shards.specs.Laws.{HasOneReading, IsComplete, IsOfOneFile};
+
+use oberon_format::{file_or_fault_law, one_recording_law};
+
+/// If all shards of a recording are there, none is missing.
+pub fn complete_law()
+    ensures { IsComplete }
+{
+    one_recording_law();
+    file_or_fault_law();
+}
+
+/// A line of a shard has one reading.
+pub fn reading_law()
+    ensures { HasOneReading }
+{}
+
+/// If files with one digest are one, shards with one digest are of one file.
+pub fn one_file_law()
+    ensures { IsOfOneFile }
+{}
