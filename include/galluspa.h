@@ -1,18 +1,19 @@
 /* Galluspa for C: checks, records and migrates recordings of the RISC5 workstation, runs the proved emulator, searches a run,
- * counts its instructions, and makes a recording while an emulator runs.
+ * counts its instructions, follows its calls, and makes a recording while an emulator runs.
  *
  * The caller owns all memory. Each function works on the caller's buffers and keeps nothing: there are no handles, nothing has to
  * be freed, and threads may call at the same time. The caller sees to this:
  *
- *   - each pointer is to valid memory of the length that is passed with it, aligned for its type, which no other thread writes
- *     during the call; no pointer is NULL, not even that of an empty buffer;
+ *   - each pointer is to valid memory of the length that is passed with it, aligned for its type; no pointer is NULL, not even that
+ *     of an empty buffer;
+ *   - during the call, no other thread writes a buffer of the call, or reads one that the call writes;
  *   - a buffer that a call writes overlaps no other buffer of the call; buffers that it only reads may overlap.
  *
  * Nothing else is asked of the caller: each number is tested, and one that is out of its range is refused.
  *
  * A function that writes an answer writes it to the front of the buffer, and leaves the bytes after it as they were. A call that is
- * refused writes nothing. There are two exceptions, each said where its function is declared: *out_count at GALLUSPA_NO_ROOM, and
- * the elements of galluspa_steps at GALLUSPA_OUT_OF_MEMORY.
+ * refused writes nothing. There are three exceptions, each said where its function is declared: *out_count at GALLUSPA_NO_ROOM, the
+ * two counts of galluspa_claims then, and the records of galluspa_records at GALLUSPA_OUT_OF_MEMORY.
  *
  * A recording and a session are bytes in the formats of docs/formats.md. docs/from-c.md is a walk through this header. */
 #ifndef GALLUSPA_H
@@ -36,8 +37,8 @@ enum {
  * answer is empty. It is 0, as GALLUSPA_DONE is, which is not what these three return: test them against this name. */
 enum { GALLUSPA_NO_ANSWER = 0 };
 
-/* What galluspa_claim, galluspa_advance, galluspa_find, galluspa_profile, galluspa_steps, galluspa_begin and galluspa_extend
- * return. */
+/* What galluspa_claim, galluspa_claims, galluspa_advance, galluspa_find, galluspa_hits, galluspa_profile, galluspa_records,
+ * galluspa_calls, galluspa_begin and galluspa_extend return. */
 enum {
     GALLUSPA_DONE = 0,
     GALLUSPA_OUT_OF_RANGE = 1,         /* a number is out of its range, a length is wrong, or inputs are out of order */
@@ -102,6 +103,32 @@ size_t galluspa_migrate(const uint8_t *recording, size_t recording_len, uint8_t 
 uint8_t galluspa_claim(const uint8_t *recording, size_t recording_len, uint32_t at, galluspa_state *state, uint32_t *words,
                        size_t words_len);
 
+/* A page of memory: 1,024 bytes. */
+typedef struct {
+    uint32_t words[256];
+} galluspa_page;
+
+/* What a checkpoint claims, its memory page by page: 4,240 bytes. */
+typedef struct {
+    galluspa_state state;   /* the state, with its count */
+    uint64_t sent_count;    /* the number of bytes sent since the checkpoint before */
+    uint32_t pages[1024];   /* which page each 256 words of its memory are: below *pages_count */
+} galluspa_checkpoint;
+
+/* Reads what all checkpoints of a recording claim, in one reading: writes checkpoint k to checkpoints[k], the pages that they name to
+ * pages, and the numbers of both to *checkpoints_count and *pages_count. The words of a checkpoint's memory from 256 * i on are
+ * pages[checkpoint.pages[i]]. Page 0 is all zeros. Two checkpoints that have the same page at an index have the same words there.
+ * Elements after these are left as they were. Whether a claim is true is not tested.
+ *
+ * Returns GALLUSPA_DONE; or GALLUSPA_NO_ROOM, and then the two counts say how much room is needed, and nothing else is written; or
+ * GALLUSPA_NO_RECORDING or GALLUSPA_OUT_OF_MEMORY (never for bytes that are not a valid recording), and then nothing is written. At
+ * most 4,097 checkpoints and 65,537 pages are needed.
+ *
+ * A call takes as long as one of galluspa_claim, which reads the whole recording for one checkpoint, and copies what it writes. It
+ * holds the decoded recording: 16 bytes for each input, 1,024 for each page, and some 4,200 for each checkpoint. */
+uint8_t galluspa_claims(const uint8_t *recording, size_t recording_len, galluspa_checkpoint *checkpoints, size_t checkpoints_len,
+                        size_t *checkpoints_count, galluspa_page *pages, size_t pages_len, size_t *pages_count);
+
 /* Runs a machine from the count of its state up to the count to. inputs are in the order of their counts; inputs before the state's
  * count, and inputs from to on, have no effect. The bytes that the machine sends are written to sent, and their number to
  * *sent_count. words_len is GALLUSPA_WORDS. Returns GALLUSPA_DONE; or GALLUSPA_OUT_OF_RANGE, GALLUSPA_NO_ROOM or
@@ -128,15 +155,29 @@ enum {
     GALLUSPA_SENDS = 6,     /* the instruction sends a byte */
     GALLUSPA_SENDS_BYTE = 7, /* it sends this byte: value is below 256 */
     GALLUSPA_TAKES = 8,     /* the machine runs, and takes an input of this kind: value is 1 to 5, as in galluspa_input */
-    GALLUSPA_STOPS = 9      /* the instruction stops the machine */
+    GALLUSPA_STOPS = 9,     /* the instruction stops the machine */
+    GALLUSPA_WRITES = 10,   /* it writes a register, whatever the value, and does not stop the machine. from is the register, as of
+                             * GALLUSPA_BECOMES. A result, a load and a link that write one of R0 to R15 write the flags, too; a product
+                             * and a quotient write H */
+    GALLUSPA_IS = 11,       /* the machine runs, and before the instruction the register from, as of GALLUSPA_BECOMES, has one of the values
+                             * from least up to most. They go round: 0 comes after 0xFFFFFFFF, so signed numbers have ranges, too, and the
+                             * values from v + 1 up to v - 1 are all but v. Those of the flags are below 16 */
+    GALLUSPA_IS_WORD = 12   /* so do the bits of a word of RAM that value, a mask, names; its other bits count as 0. from is its address, a
+                             * multiple of 4 below 2^20. A mask of 0 is refused */
 };
 
-/* A condition: 16 bytes. Fields that its kind does not name are not read. */
+/* Is added to the kind of a condition that is joined to the next one of the list: they hold where both hold. At most four are joined
+ * with one another; the last of a list is not joined. A hit has the index of the first of them. */
+#define GALLUSPA_AND 0x80000000u
+
+/* A condition: 24 bytes. Fields that its kind does not name are not read. */
 typedef struct {
-    uint32_t kind;      /* which condition */
-    uint32_t from;      /* the first number of the range, or the register */
+    uint32_t kind;      /* which condition; with GALLUSPA_AND added if it is joined to the next one */
+    uint32_t from;      /* the first number of the range, the register, or the address of the word */
     uint32_t end;       /* the number after the last of the range: above from */
     uint32_t value;     /* the mask, the value of the register, the byte, or the kind of input */
+    uint32_t least;     /* the first of some values */
+    uint32_t most;      /* the last of them */
 } galluspa_condition;
 
 /* A count at which a condition holds: 16 bytes. */
@@ -168,6 +209,21 @@ uint8_t galluspa_find(const galluspa_state *state, const uint32_t *words, size_t
                       size_t inputs_len, uint64_t to, const galluspa_condition *conditions, size_t conditions_len, uint32_t wanted,
                       galluspa_hit *hit);
 
+/* Finds all counts at which a condition holds, in their order, and advances the machine: up to the count to, or to the count after the
+ * hit that fills hits, whichever comes first. state->count then says where to go on: call again until it is to. The hits of calls
+ * that follow one another are those of one call for the whole. The conditions are as for galluspa_find; those that are joined are
+ * one. The bytes that the machine sends are dropped. words_len is GALLUSPA_WORDS, and hits_len is not 0.
+ *
+ * Returns GALLUSPA_DONE, and writes the hits to the front of hits, and their number, which may be 0, to *hits_count; or
+ * GALLUSPA_OUT_OF_RANGE or GALLUSPA_OUT_OF_MEMORY, and then nothing is written, and the machine stays as it is. All numbers are tested
+ * before anything is allocated, so GALLUSPA_OUT_OF_MEMORY means that they are in their ranges.
+ *
+ * A call takes as long as galluspa_find does, and copies the memory as galluspa_advance does. It holds at most some 3.8 MB, 4 KB for
+ * each page with code that runs, 16 bytes for each input, and 48 bytes for each hit. */
+uint8_t galluspa_hits(galluspa_state *state, uint32_t *words, size_t words_len, const galluspa_input *inputs, size_t inputs_len,
+                      uint64_t to, const galluspa_condition *conditions, size_t conditions_len, galluspa_hit *hits, size_t hits_len,
+                      size_t *hits_count);
+
 /* Counts how often a run executes each word, from the count of a state up to the count to: the run that galluspa_advance would do
  * with these inputs. The bytes that the machine sends are dropped. words_len, visits_len and departures_len are GALLUSPA_WORDS.
  *
@@ -179,30 +235,44 @@ uint8_t galluspa_find(const galluspa_state *state, const uint32_t *words, size_t
  * The state stays as it is. Returns GALLUSPA_DONE; or GALLUSPA_OUT_OF_RANGE or GALLUSPA_OUT_OF_MEMORY, and then nothing is written.
  * All numbers are tested before anything is allocated, so GALLUSPA_OUT_OF_MEMORY means that they are in their ranges.
  *
- * A call runs at some 60 to 80 % of the speed of galluspa_advance on programs that work, and counts the iterations of an idle loop
+ * A call runs at some 70 to 95 % of the speed of galluspa_advance on programs that work, and counts the iterations of an idle loop
  * without doing each. It copies the memory, and holds at most some 8 MB, 4 KB for each page with code that runs, and 16 bytes for
  * each input. The counts of two runs that follow one another add up to those of the whole run. */
 uint8_t galluspa_profile(const galluspa_state *state, const uint32_t *words, size_t words_len, const galluspa_input *inputs,
                          size_t inputs_len, uint64_t to, uint64_t *visits, size_t visits_len, uint64_t *departures,
                          size_t departures_len);
 
-/* The processor of a machine: 80 bytes. The fields are those of galluspa_state. */
+/* What an instruction does, and the state before it: 176 bytes. A number that says nothing is 0. */
 typedef struct {
-    uint32_t r[16];     /* R0 to R15 */
-    uint32_t h;         /* the auxiliary register H */
-    uint32_t pc;        /* the program counter, in words: below 2^22 */
-    uint32_t flags;     /* N is 8, Z 4, C 2, V 1: below 16 */
-    uint32_t stop;      /* 0 while it runs, at most 4 */
-} galluspa_processor;
+    galluspa_state state;   /* the state before the instruction, and before the inputs of its count */
+    uint64_t inputs_from;   /* the index of the first input of this count or of a later one */
+    uint64_t inputs_count;  /* how many inputs from there on the machine takes before the instruction */
+    uint32_t word;          /* the word of the instruction */
+    uint32_t address;       /* the address of the first byte that it loads or stores: below 2^24 */
+    uint32_t old_value;     /* the value of these bytes before it, as a load of them gives it after the inputs */
+    uint32_t new_value;     /* the value that it stores there, or passes to a device; old_value if it loads */
+    uint32_t sent;          /* the byte that it sends */
+    uint8_t has_word;       /* 1 if there is a word: the machine runs, and its program counter is in memory */
+    uint8_t access_bytes;   /* how many bytes it loads or stores: 1 or 4, or 0 if it accesses none */
+    uint8_t stores;         /* 1 if it stores them, 0 if it loads them */
+    uint8_t sends;          /* 1 if it sends a byte */
+} galluspa_trace_record;
 
-/* Traces a run: writes the processor at the count of a state to steps[0], and at each count after it to the next of the steps_len
- * elements, in the run that galluspa_advance would do with these inputs. It is the processor before the instruction of its count;
- * inputs do not change it. words_len is GALLUSPA_WORDS, and the state's count and steps_len together are below 2^64.
+/* Records what each instruction of a run does: runs the machine as far as galluspa_advance would, up to the state's count and records_len
+ * more, and writes what the instruction of each count does, in order, to records[0] and those after it. words_len is GALLUSPA_WORDS, and
+ * the state's count and records_len together are below 2^64. What an instruction does to registers and devices shows in the state of
+ * the next record; after the last one, in *state. A stopped machine has records, too, that do nothing. An instruction whose address is
+ * neither RAM nor a device word stops the machine, and accesses nothing.
  *
- * The state stays as it is: advance it by steps_len counts to go on. Returns GALLUSPA_DONE; or GALLUSPA_OUT_OF_RANGE, and then
- * nothing is written; or GALLUSPA_OUT_OF_MEMORY: then all numbers are in their ranges, and the first elements may be written. */
-uint8_t galluspa_steps(const galluspa_state *state, const uint32_t *words, size_t words_len, const galluspa_input *inputs,
-                       size_t inputs_len, galluspa_processor *steps, size_t steps_len);
+ * Returns GALLUSPA_DONE; the state and the words are then those after the last record, so call again to go on. Otherwise they stay as
+ * they are, and it returns GALLUSPA_OUT_OF_RANGE, and then nothing is written; or GALLUSPA_OUT_OF_MEMORY: then all numbers are in their
+ * ranges, the records of some first counts are written, and the rest of records is as it was.
+ *
+ * A call does some 12 to 25 million counts a second, each by itself, also where the machine waits. It copies the memory, which takes as
+ * long as some 3,000 counts, and at its end the pages that changed. It holds at most some 3.8 MB, 4 KB for each page with code that runs,
+ * and 16 bytes for each input. */
+uint8_t galluspa_records(galluspa_state *state, uint32_t *words, size_t words_len, const galluspa_input *inputs, size_t inputs_len,
+                         galluspa_trace_record *records, size_t records_len);
 
 /* Begins a recording: writes the recording that has no inputs, and checkpoint 0 alone, which claims this state, to out, and its
  * length to *out_count. words_len is GALLUSPA_WORDS. The state's count is 0, since a recording counts from its initial state.
@@ -223,11 +293,61 @@ uint8_t galluspa_begin(const galluspa_state *state, const uint32_t *words, size_
  * Returns as galluspa_begin does, or GALLUSPA_NO_RECORDING, GALLUSPA_PENDING_INPUTS or GALLUSPA_TOO_.. It returns the first of
  * these that applies: GALLUSPA_OUT_OF_RANGE for a number of the state or of an input, words_len, or inputs that are out of order;
  * GALLUSPA_NO_RECORDING; GALLUSPA_PENDING_INPUTS; GALLUSPA_OUT_OF_RANGE for what does not come next; GALLUSPA_TOO_MANY_INPUTS,
- * .._CHECKPOINTS, GALLUSPA_TOO_MUCH_OUTPUT, GALLUSPA_TOO_MANY_PAGES; GALLUSPA_NO_ROOM. GALLUSPA_OUT_OF_MEMORY comes only for a
- * valid recording, and numbers in their ranges. */
+ * .._CHECKPOINTS, GALLUSPA_TOO_MUCH_OUTPUT, GALLUSPA_TOO_MANY_PAGES; GALLUSPA_NO_ROOM.
+ *
+ * Before memory is asked for, the numbers are tested by themselves: those of the state but its count, words_len, and the inputs,
+ * whose counts do not fall and are at most 2^40. The recording is decoded next, which asks for memory. Only then are the counts
+ * compared with it, and the state's count with 2^40. So GALLUSPA_OUT_OF_MEMORY comes only for a valid recording and numbers in
+ * these ranges, and it may come in place of whatever follows GALLUSPA_NO_RECORDING in the list above. */
 uint8_t galluspa_extend(const uint8_t *recording, size_t recording_len, const galluspa_input *inputs, size_t inputs_len,
                         const galluspa_state *state, const uint32_t *words, size_t words_len, const uint8_t *sent, size_t sent_len,
                         uint8_t *out, size_t out_len, size_t *out_count);
+
+/* A call: a branch with link that is taken, but not to the next word, and that returns from no open call: 24 bytes. */
+typedef struct {
+    uint64_t count;     /* the count of the branch */
+    uint32_t at;        /* its word number */
+    uint32_t to;        /* the word that it goes to */
+    uint32_t back;      /* the word after it, to which the call returns */
+    uint32_t sp;        /* R14, the stack pointer */
+} galluspa_call;
+
+/* A count at which the open calls change: 32 bytes. The first stay of them stay open, and then the call is added, if one is made. */
+typedef struct {
+    uint64_t count;     /* the count, which is the call's, too */
+    uint64_t stay;      /* how many of the open calls stay open, the oldest ones */
+    uint32_t at;        /* the word of the call's branch, or 0xFFFFFFFF if no call is made: then the three others are 0 */
+    uint32_t to;        /* the word that it goes to */
+    uint32_t back;      /* the word after it */
+    uint32_t sp;        /* R14 */
+} galluspa_turn;
+
+/* Runs a machine as galluspa_advance does, and follows its calls, by the convention of Project Oberon: R15 is the return address, and
+ * R14 the stack pointer, which falls as the stack grows. The bytes that it sends are dropped.
+ *
+ * A branch with link that is taken is a call of the word that it goes to, unless it goes to the next word, or returns. A branch that
+ * is taken, to another word than the next one, returns from an open call if it goes to the word after that call's branch, and R14 is
+ * what it was there. It also ends the calls at which R14 was below what it is now, if that is at most limit, the highest R14 of the
+ * stack: above it is another stack. And it ends the call that the same branch made with the same R14, if it makes it again. With a call
+ * end all that were made after it. With the limit 0xFFFFFFFF each rise of R14 counts, and with 0 none does.
+ *
+ * calls holds the *calls_count calls that are open at the state's count, oldest first, and gets those that are open where the machine
+ * is then: at the count to, or at the first count at which turns or calls is full, which is then the state's. turns gets the counts at
+ * which the open calls changed, and *turns_count their number. Begin with no calls, and go on with what the last call left: then turns of
+ * the calls, one after the other, are those of the whole run. words_len is GALLUSPA_WORDS, turns_len at least 1, and calls_len above
+ * *calls_count.
+ *
+ * Returns GALLUSPA_DONE; or GALLUSPA_OUT_OF_RANGE or GALLUSPA_OUT_OF_MEMORY, and then nothing is written. Out of range are, beside what
+ * is so for galluspa_advance, calls that no run leaves open: an at that is not below GALLUSPA_WORDS, a back that is not at + 1, counts
+ * that do not rise or are not below the state's, and an sp up to limit that is above that of a call before it. All numbers are tested
+ * before anything is allocated, so GALLUSPA_OUT_OF_MEMORY means that they are in their ranges.
+ *
+ * A call copies the memory, and at its end the pages that changed; it holds what galluspa_advance does, and calls and turns once more.
+ * It passes over the iterations of an idle loop, as galluspa_advance does, if they leave the open calls as they are; a loop in the last 256
+ * words of memory may be done step by step. */
+uint8_t galluspa_calls(galluspa_state *state, uint32_t *words, size_t words_len, const galluspa_input *inputs, size_t inputs_len,
+                       uint64_t to, uint32_t limit, galluspa_call *calls, size_t calls_len, size_t *calls_count, galluspa_turn *turns,
+                       size_t turns_len, size_t *turns_count);
 
 #ifdef __cplusplus
 }

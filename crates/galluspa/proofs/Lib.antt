@@ -1,10 +1,15 @@
 -- The lemmas of this crate.
 mod WordLemmas
 mod TextLemmas
+mod ClaimLemmas
 mod FrameLemmas
 mod InputLemmas
+mod ConditionLemmas
+mod HitLemmas
 mod AdvanceLemmas
 mod ProfileLemmas
+mod RecordedLemmas
 mod ExtendLemmas
 mod RecordLemmas
 mod JoinLemmas
+pub mod OpenLemmas

@@ -1,10 +1,9 @@
--- Numbers of visits and departures, which are at most the number of steps, and the processor at each count.
-use Rattle.std.proofs.Common.{◌≡◌, ℕ, zero, suc, ◌+◌, ◌-◌, ◌%◌, ◌<◌, ◌≤◌, ◌^◌, Bool, true, false, List, refl, ap, sym, ◌∙◌, arith}
+-- Numbers of visits and departures, which are at most the number of steps.
+use Rattle.std.proofs.Common.{◌≡◌, ℕ, zero, suc, ◌+◌, ◌%◌, ◌<◌, ◌≤◌, ◌^◌, Bool, true, false, List, refl, arith}
 use Rattle.risc_model.specs.declared.event.Event.{Event}
 use Rattle.risc_model.specs.MachineState.{State}
 use Rattle.risc_model.specs.Replay.{feed, run_of}
 use Rattle.risc_model.specs.Visits.{one_if, sum_over}
-use Rattle.risc_model.proofs.LawLemmas.{run_of-on}
 use Rattle.risc_model.proofs.VisitLemmas.{over-none, over-suc}
 
 pub at_most-one : (b : Bool) → one_if b ≤ 1
@@ -25,13 +24,3 @@ over-most f es from (suc n) s small =
 -- numbers below 2^64
 pub exact : (a b most : ℕ) → a % 2 ^ 64 ≡ b % 2 ^ 64 → a < 2 ^ 64 → b ≤ most → most < 2 ^ 64 → a ≡ b
 exact a b most alike small few less = omega arith
-
--- one step more of a run
-pub next-state : (es : List Event) (from k at : ℕ) (s t u : State) → at ≡ from + k → t ≡ run_of es from k s → u ≡ run_of es at (at + 1 - at) t → u ≡ run_of es from (k + 1) s
-next-state es from k at s t u here reached done =
-    let one : at + 1 - at ≡ 1 = omega arith in
-    done
-    ∙ ap (λ (n : ℕ). run_of es at n t) one
-    ∙ ap (λ (n : ℕ). run_of es n 1 t) here
-    ∙ ap (λ (x : State). run_of es (from + k) 1 x) reached
-    ∙ sym (run_of-on es from k 1 s)

@@ -7,11 +7,13 @@ use Rattle.risc_model.specs.InputOrder.{count_at}
 use Rattle.risc_model.specs.MachineState.{State}
 use Rattle.risc_model.specs.Replay.{run_of, sent_of}
 use Rattle.risc_pages.specs.declared.sizes.TheConstants.{MEMORY_WORDS}
+use Rattle.risc_search.specs.declared.hit.Hit.{Hit}
 use Rattle.oberon_format.specs.Defined.{IsTrueAt, claimed}
 use Rattle.oberon_format.specs.Recording.{RecordingParts, last_of}
 use Rattle.oberon_format.specs.Text.{Text}
 use Rattle.oberon_session.specs.Extended.{last_count}
 use Rattle.oberon_answers.specs.Record.{IsAccepted}
+use Rattle.galluspa.specs.declared.conditions.RawCondition.{RawCondition}
 use Rattle.galluspa.specs.declared.raw.RawInput.{RawInput}
 use Rattle.galluspa.specs.declared.raw.RawState.{RawState}
 use Rattle.galluspa.specs.declared.refusal.TheConstants.{DONE, NO_ANSWER, NO_CHECKPOINT, NO_RECORDING, NO_ROOM, NOT_FOUND}
@@ -19,6 +21,7 @@ use Rattle.galluspa.specs.declared.refusal.TheConstants.{OUT_OF_MEMORY, OUT_OF_R
 use Rattle.galluspa.specs.declared.refusal.TheConstants.{TOO_MANY_CHECKPOINTS, TOO_MANY_INPUTS, TOO_MANY_PAGES, TOO_MUCH_OUTPUT}
 use Rattle.galluspa.specs.Advance.{HasRun}
 use Rattle.galluspa.specs.Extend.{IsBeginning, IsExtension}
+use Rattle.galluspa.specs.Hits.{AreAllHits, HasFoundHits}
 use Rattle.galluspa.specs.Raw.{state_of}
 
 -- a run with the inputs of its own counts alone is the run with all inputs, and sends the same
@@ -40,6 +43,16 @@ JoinLaw =
     → HasRun first mid.count old old_words mid mid_words sent
     → HasRun second new.count mid mid_words new new_words more
     → HasRun (first ++ second) new.count old old_words new new_words (sent ++ more)
+
+-- the hits of two searches for all hits, the second from where the first ended, one after the other, are all hits of the run up to where
+-- the second ended
+abbrev pub HitsJoinLaw : Type 0
+HitsJoinLaw =
+    (inputs : List RawInput) (to further room more : ℕ) (old mid new : RawState) (old_words mid_words new_words : List ℕ)
+    (raws : List RawCondition) (hits later : List Hit)
+    → HasFoundHits inputs to old old_words raws room mid mid_words hits
+    → HasFoundHits inputs further mid mid_words raws more new new_words later
+    → AreAllHits inputs old old_words raws new.count (hits ++ later)
 
 -- ---- recordings that are made while a machine runs
 

@@ -4,7 +4,11 @@ pub mod Room
 pub mod Advance
 pub mod Claim
 pub mod Extend
+pub mod Conditions
 pub mod Find
+pub mod Hits
 pub mod Profile
+pub mod Records
+pub mod Calls
 pub mod Laws
 pub mod inner

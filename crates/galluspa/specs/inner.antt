@@ -1,5 +1,9 @@
 -- Definitions for contracts of private functions. No public contract and no law uses them, so nobody has to believe them.
+pub mod Claiming
 pub mod Extending
+pub mod Recording
 pub mod Pages
 pub mod Running
+pub mod Hits
 pub mod Counting
+pub mod Following

@@ -151,6 +151,29 @@ fn run_on(
     }
 }
 
+/// Writes the state of a machine, which began with a caller's words and is at a count, to the caller's memory: the state, and the pages
+/// that changed over the words. Fails only if memory runs out, and writes nothing then.
+pub fn write_machine(
+    machine: Machine<'_>,
+    count: u64,
+    state: &mut RawState,
+    words: &mut [u32],
+) -> Result<(), AllocError>
+    requires base { machine.base ≡ words.old }
+    requires words { length words.old ≡ MEMORY_WORDS }
+    ensures count { OnOk result (state.new.count ≡ count) }
+    ensures state { OnOk result (state_of state.new words.new ≡ machine.entry.state) }
+    ensures written { OnOk result (IsWritten state.new words.new) }
+    ensures unchanged { OnErr result ((state.new ≡ state.old) × (words.new ≡ words.old)) }
+{
+    // The contract of `owned` states that a memory has all its words.
+    let _owned = machine.memory().owned(0);
+    let (cpu, devices, delta) = machine.close()?;
+    *state = state_of(count, &cpu, &devices);
+    write_delta(&delta, words);
+    Ok(())
+}
+
 /// Writes nothing before the machine is closed, the last step that can be refused.
 fn run_machine(
     alloc: Global,
@@ -171,11 +194,7 @@ fn run_machine(
     ensures refused { IfErr result (IsRunRefusal inputs.now to state.old words.old room) }
 {
     let sent = sent_by(alloc, &mut machine, inputs, state.count, to, room)?;
-    // The contract of `owned` states that a memory has all its words.
-    let _owned = machine.memory().owned(0);
-    let (cpu, devices, delta) = machine.close()?;
-    *state = state_of(to, &cpu, &devices);
-    write_delta(&delta, words);
+    write_machine(machine, to, state, words)?;
     Ok(sent)
 }
 

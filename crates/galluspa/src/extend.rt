@@ -1,5 +1,5 @@
 //! Recordings that a caller makes while a machine runs: the beginning, and the next checkpoint.
-ghost use Rattle.std.specs.Prelude.{◌≡◌, ◌≢◌, ◌<◌, ◌≤◌, ◌⊎◌, IfErr, IfNone, IfOk, IfSome, drop, length, take};
+ghost use Rattle.std.specs.Prelude.{◌≡◌, ◌≢◌, ◌<◌, ◌≤◌, ◌⊎◌, IfErr, IfNone, IfOk, IfSome, OnOk, drop, length, take};
 ghost use Rattle.risc_core.specs.declared.branch.TheConstants.{COUNTER_END};
 ghost use Rattle.risc_pages.specs.declared.sizes.TheConstants.{MEMORY_WORDS};
 ghost use Rattle.oberon_format.specs.Text.{IsEncoding};
@@ -18,7 +18,7 @@ use crate::front::copy_to_front;
 use crate::raw::{RawInput, RawState, parts_of};
 use crate::refusal::{
     DONE, NO_CHECKPOINT, NO_RECORDING, NO_ROOM, OUT_OF_MEMORY, OUT_OF_RANGE, PENDING_INPUTS,
-    TOO_MANY_CHECKPOINTS, TOO_MANY_INPUTS, TOO_MANY_PAGES, TOO_MUCH_OUTPUT,
+    RangeOrMemory, TOO_MANY_CHECKPOINTS, TOO_MANY_INPUTS, TOO_MANY_PAGES, TOO_MUCH_OUTPUT,
 };
 use oberon_format::{Fault, Recording, read, write};
 use oberon_session::{Claim, ExtendFault, begin_recording, extend_recording};
@@ -97,23 +97,21 @@ fn written(alloc: Global, recording: Recording) -> Result<Vec<u8>, Unrecorded>
     }
 }
 
-fn beginning(alloc: Global, state: &RawState, words: &[u32]) -> Result<Vec<u8>, Unrecorded>
+fn beginning(alloc: Global, state: &RawState, words: &[u32]) -> Result<Vec<u8>, RangeOrMemory>
     ensures beginning { IfOk result (λ bytes. IsBeginning state.now words.now bytes.items) }
-    ensures whole { IfOk result (λ _. CanBegin state.now words.now) }
-    ensures in_range { IfErr result (λ refusal. refusal ≢ Unrecorded.Range → CanBegin state.now words.now) }
-    ensures range { IfErr result (λ refusal. refusal ≡ Unrecorded.Range → ¬ (CanBegin state.now words.now)) }
-    ensures refusal { IfErr result (λ refusal. (refusal ≡ Unrecorded.Range) ⊎ (refusal ≡ Unrecorded.Memory)) }
+    ensures whole { OnOk result (CanBegin state.now words.now) }
+    ensures in_range { IfErr result (λ refusal. refusal ≡ RangeOrMemory.Memory → CanBegin state.now words.now) }
+    ensures range { IfErr result (λ refusal. refusal ≡ RangeOrMemory.Range → ¬ (CanBegin state.now words.now)) }
 {
     if state.count != 0 {
-        return Err(Unrecorded::Range);
+        return Err(RangeOrMemory::Range);
     }
     let Some(claim) = claim_of(state, words, &[]) else {
-        return Err(Unrecorded::Range);
+        return Err(RangeOrMemory::Range);
     };
-    match begin_recording(alloc, claim.cpu, claim.devices, words) {
-        Ok(recording) => written(alloc, recording),
-        Err(_) => Err(Unrecorded::Memory),
-    }
+    let recording = begin_recording(alloc, claim.cpu, claim.devices, words)?;
+    let bytes = write(alloc, &recording)?;
+    Ok(bytes)
 }
 
 fn unextended(fault: ExtendFault) -> Unrecorded
@@ -226,8 +224,8 @@ pub extern "C" fn galluspa_begin(
 {
     match beginning(alloc, state, words) {
         Ok(bytes) => put(&bytes, out, out_count),
-        Err(Unrecorded::Range) => OUT_OF_RANGE,
-        Err(_) => OUT_OF_MEMORY,
+        Err(RangeOrMemory::Range) => OUT_OF_RANGE,
+        Err(RangeOrMemory::Memory) => OUT_OF_MEMORY,
     }
 }
 
@@ -242,7 +240,7 @@ pub extern "C" fn galluspa_begin(
 /// or an input doesn't come between the two; 6 to 9 (`TOO_MANY_INPUTS`, `TOO_MANY_CHECKPOINTS`, `TOO_MUCH_OUTPUT`,
 /// `TOO_MANY_PAGES`) if the recording would have more of these than a recording may have; and 2 (`NO_ROOM`) if `out` has no room
 /// for the recording, whose length is then written to `out_count`. If memory runs out, it is 3 (`OUT_OF_MEMORY`): then the numbers
-/// are in their ranges, and the bytes are a recording.
+/// are in their ranges, but for the state's count, which is compared with those of the recording, and the bytes are a recording.
 #[unsafe(no_mangle)]
 pub extern "C" fn galluspa_extend(
     alloc: Global,

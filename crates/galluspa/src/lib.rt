@@ -5,37 +5,46 @@
 //! Each function takes all that it needs in slices of the caller's memory, and keeps nothing: there are no handles, and nothing has
 //! to be freed. A machine lives with the caller as plain numbers: a `RawState` and its 262,144 words. A slice that a call writes
 //! must not overlap another of its slices, and no pointer is null, not even that of an empty slice. Each slice is valid memory of its
-//! length, aligned for its type, which no other thread writes during the call. Nothing else is asked of the caller: each number is
-//! tested, and one that is out of its range is refused.
+//! length, aligned for its type. During the call no other thread writes it, or reads it if the call writes it. Nothing else is asked
+//! of the caller: each number is tested, and one that is out of its range is refused.
 //!
-//! Three laws join the calls. A run needs only the inputs of its own counts (`frame_law`). Calls from count to count are one run
-//! (`join_law`). A recording whose claims are true, and which is extended by what `galluspa_advance` returns from its last
-//! checkpoint, claims only what is true, and is accepted (`record_law`).
+//! Four laws join the calls. A run needs only the inputs of its own counts (`frame_law`). Calls from count to count are one run
+//! (`join_law`), and the hits of two searches, one after the other, are those of one (`hits_join_law`). A recording whose claims are
+//! true, and which is extended by what `galluspa_advance` returns from its last checkpoint, claims only what is true, and is accepted
+//! (`record_law`).
 #![tactic(auto)]
 
 mod advance;
 mod answer;
+mod calls;
 mod claim;
+mod claims;
+mod conditions;
 mod extend;
 mod find;
 mod front;
+mod hits;
 mod laws;
 mod profile;
 mod raw;
+mod records;
 mod refusal;
-mod steps;
 mod words;
 
 pub use advance::galluspa_advance;
 pub use answer::{galluspa_check, galluspa_migrate, galluspa_record};
+pub use calls::{RawTurn, galluspa_calls};
 pub use claim::galluspa_claim;
+pub use claims::{RawCheckpoint, RawPage, galluspa_claims};
+pub use conditions::{RawCondition, RawHit};
 pub use extend::{galluspa_begin, galluspa_extend};
-pub use find::{RawCondition, RawHit, galluspa_find};
-pub use laws::{codes_law, frame_law, join_law, record_law};
+pub use find::galluspa_find;
+pub use hits::galluspa_hits;
+pub use laws::{codes_law, frame_law, hits_join_law, join_law, record_law};
 pub use profile::galluspa_profile;
 pub use raw::{RawInput, RawState};
+pub use records::{RawRecord, galluspa_records};
 pub use refusal::{
     DONE, NO_ANSWER, NO_CHECKPOINT, NO_RECORDING, NO_ROOM, NOT_FOUND, OUT_OF_MEMORY, OUT_OF_RANGE,
     PENDING_INPUTS, TOO_MANY_CHECKPOINTS, TOO_MANY_INPUTS, TOO_MANY_PAGES, TOO_MUCH_OUTPUT,
 };
-pub use steps::{RawProcessor, galluspa_steps};

@@ -9,7 +9,7 @@ ghost use Rattle.galluspa.specs.inner.Counting.{AreDepartures};
 
 use crate::advance::{are_in_order, inputs_of};
 use crate::raw::{RawInput, RawState, parts_of};
-use crate::refusal::{DONE, OUT_OF_MEMORY, OUT_OF_RANGE, Refusal};
+use crate::refusal::{DONE, OUT_OF_MEMORY, OUT_OF_RANGE, RangeOrMemory};
 use crate::words::paged;
 use risc_devices::Devices;
 use risc_machine::{Counters, Machine};
@@ -67,24 +67,24 @@ fn profile(
     to: u64,
     visits: &mut [u64],
     departures: &mut [u64],
-) -> Result<(), Refusal>
+) -> Result<(), RangeOrMemory>
     ensures profiled { OnOk result (HasProfiled inputs.now to state.now words.now visits.new departures.new) }
     ensures in_range { OnOk result (IsInProfileRange inputs.now to state.now words.now visits.old departures.old) }
     ensures unchanged { OnErr result ((visits.new ≡ visits.old) × (departures.new ≡ departures.old)) }
     ensures memory { IfErr result (λ refusal.
-        refusal ≢ Refusal.Range → IsInProfileRange inputs.now to state.now words.now visits.old departures.old) }
+        refusal ≢ RangeOrMemory.Range → IsInProfileRange inputs.now to state.now words.now visits.old departures.old) }
     ensures range { IfErr result (λ refusal.
-        refusal ≡ Refusal.Range → ¬ (IsInProfileRange inputs.now to state.now words.now visits.old departures.old)) }
+        refusal ≡ RangeOrMemory.Range → ¬ (IsInProfileRange inputs.now to state.now words.now visits.old departures.old)) }
 {
     let count = MEMORY_WORDS as usize;
     if to < state.count || visits.len() != count || departures.len() != count {
-        return Err(Refusal::Range);
+        return Err(RangeOrMemory::Range);
     }
     if !are_in_order(inputs) {
-        return Err(Refusal::Range);
+        return Err(RangeOrMemory::Range);
     }
     let Some(parts) = parts_of(state, words) else {
-        return Err(Refusal::Range);
+        return Err(RangeOrMemory::Range);
     };
     let inputs = inputs_of(alloc, inputs)?;
     profile_parts(alloc, parts, state, words, &inputs, to, visits, departures)?;
@@ -121,7 +121,7 @@ pub extern "C" fn galluspa_profile(
 {
     match profile(alloc, state, words, inputs, to, visits, departures) {
         Ok(()) => DONE,
-        Err(Refusal::Range) => OUT_OF_RANGE,
-        Err(_) => OUT_OF_MEMORY,
+        Err(RangeOrMemory::Range) => OUT_OF_RANGE,
+        Err(RangeOrMemory::Memory) => OUT_OF_MEMORY,
     }
 }

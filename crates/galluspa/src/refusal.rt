@@ -41,6 +41,26 @@ pub const PENDING_INPUTS: u8 = 10;
 /// No condition of a search holds at any of its counts.
 pub const NOT_FOUND: u8 = 11;
 
+/// Why a call did nothing that gives a caller no bytes of its own: room is never short.
+#[derive(Clone, Copy)]
+pub enum RangeOrMemory {
+    /// A number is out of its range, a slice is not of its length, or inputs are out of order.
+    Range,
+    /// An allocation failed.
+    Memory,
+}
+
+impl From<AllocError> for RangeOrMemory {
+    ghost use Rattle.std.specs.Prelude.{◌≡◌};
+    ghost use Rattle.galluspa.specs.declared.refusal.RangeOrMemory.{RangeOrMemory};
+
+    ghost from_gives = { λ _ refusal. refusal ≡ RangeOrMemory.Memory };
+
+    fn from(_failure: AllocError) -> RangeOrMemory {
+        RangeOrMemory::Memory
+    }
+}
+
 /// Why a machine was not advanced.
 #[derive(Clone, Copy)]
 pub enum Refusal {

@@ -1,23 +1,24 @@
 use Rattle.std.proofs.Common.{arith}
-use Rattle.std.proofs.lemmas.Result.{IfOk-weaker, IfErr-weaker}
+use Rattle.std.proofs.lemmas.Result.{err_from_is_err_and}
 use Rattle.galluspa.proofs.extend.beginning.Goals as goal
 
-pub returns-in-Ok-clause-beginning : goal.returns-in-Ok-clause-beginning
-returns-in-Ok-clause-beginning c =
-    IfOk-weaker c.written.result _ _ (λ bytes text. record {
-      begins = omega arith;
-      recording = c.in-Ok.recording;
-      begun = search arith;
-      text_is = text;
-    }) c.written.ensures.text
+pub returns-clause-beginning : goal.returns-clause-beginning
+returns-clause-beginning c = record {
+  begins = omega arith;
+  recording = c.in_ok-recording.recording;
+  begun = search arith;
+  text_is = search arith;
+}
 
-pub returns-in-Ok-clause-whole : goal.returns-in-Ok-clause-whole
-returns-in-Ok-clause-whole c =
-    IfOk-weaker c.written.result _ _ (λ _ _. record { is_whole = c.in-Some.ensures.whole; begins = omega arith }) c.written.ensures.text
+pub returns-clause-whole : goal.returns-clause-whole
+returns-clause-whole c = record { is_whole = c.in-Some.ensures.whole; begins = omega arith }
 
-pub returns-in-Err-clause-in_range : goal.returns-in-Err-clause-in_range
-returns-in-Err-clause-in_range c = λ _. record { is_whole = c.in-Some.ensures.whole; begins = omega arith }
+pub returns-in_err-recording-clause-in_range : goal.returns-in_err-recording-clause-in_range
+returns-in_err-recording-clause-in_range c =
+    let from = err_from_is_err_and c.from_residual.result c.from_residual.ensures.1 in
+    rw from.1 (λ _. record { is_whole = c.in-Some.ensures.whole; begins = omega arith })
 
-pub returns-in-Ok-clause-in_range : goal.returns-in-Ok-clause-in_range
-returns-in-Ok-clause-in_range c =
-    IfErr-weaker c.written.result _ _ (λ _ _ _. record { is_whole = c.in-Some.ensures.whole; begins = omega arith }) c.written.ensures.memory
+pub returns-in_err-bytes-clause-in_range : goal.returns-in_err-bytes-clause-in_range
+returns-in_err-bytes-clause-in_range c =
+    let from = err_from_is_err_and c.from_residual-in_err-bytes.result c.from_residual-in_err-bytes.ensures.1 in
+    rw from.1 (λ _. record { is_whole = c.in-Some.ensures.whole; begins = omega arith })

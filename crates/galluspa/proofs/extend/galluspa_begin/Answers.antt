@@ -4,9 +4,6 @@ use Rattle.galluspa.proofs.extend.galluspa_begin.Goals as goal
 pub returns-in-Ok-clause-begun : goal.returns-in-Ok-clause-begun
 returns-in-Ok-clause-begun c = search arith
 
-pub returns-in-Err : goal.returns-in-Err
-returns-in-Err c = search arith
-
 pub returns-in-Ok-clause-no_room : goal.returns-in-Ok-clause-no_room
 returns-in-Ok-clause-no_room c = search arith
 

@@ -1,6 +1,0 @@
-use Rattle.std.proofs.Common.{◌≡◌, Some, map, take}
-use Rattle.galluspa.specs.Find.{condition_of}
-use Rattle.galluspa.proofs.find.conditions_of.Given as goal
-
-abbrev pub invariant-loop-raw : goal.invariant-loop-raw
-invariant-loop-raw l = map condition_of (take l.raw-index l.raws) ≡ map (λ c. Some c) l.conditions.items
