@@ -23,14 +23,12 @@ except ImportError:
 TOP = Path(__file__).resolve().parent
 sys.path.insert(0, str(TOP / "tools"))
 
-from galluspa.version import number  # noqa: E402
+from galluspa.process.version import number  # noqa: E402
 
 BUILT = [
     name for name in ("crates/oberon_replay/out/oberon_replay", "crates/galluspa/out/libgalluspa.so") if (TOP / name).is_file()
 ]
 OPENED = ["web/galluspa.html", "include/galluspa.h"]
-# The modules that make packages of a clone.
-ONLY_HERE = {"packages", "manual", "package", "build_library"}
 # What setuptools writes while it builds; by default it would be among the sources.
 SCRATCH = tempfile.TemporaryDirectory()
 atexit.register(SCRATCH.cleanup)
@@ -38,10 +36,6 @@ atexit.register(SCRATCH.cleanup)
 
 class Modules(build_py):
     """Copies the modules, and what they call and open. An editable installation finds all in the clone."""
-
-    def find_package_modules(self, package: str, package_dir: str) -> list[tuple[str, str, str]]:
-        """Returns the modules of a package, but for those that only a clone has."""
-        return [it for it in super().find_package_modules(package, package_dir) if it[1] not in ONLY_HERE]
 
     def run(self) -> None:
         """Copies everything."""

@@ -6,13 +6,14 @@ from typing import NoReturn
 # An interrupt before the command has begun ends it without a traceback; once it runs, `run` sees to it.
 signal.signal(signal.SIGINT, signal.SIG_DFL)
 
-from galluspa import command, commands  # noqa: E402
+from galluspa.commands import NAME, main  # noqa: E402
+from galluspa.process import cli  # noqa: E402
 
 
 def run() -> NoReturn:
     """Runs the command, and ends with its exit status."""
-    command.name_as(commands.NAME)
-    command.run(commands.main)
+    cli.name_as(NAME)
+    cli.run(main)
 
 
 if __name__ == "__main__":

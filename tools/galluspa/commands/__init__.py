@@ -1,4 +1,5 @@
-"""The command `galluspa` and its subcommands: a module of this package for each, which is imported when it is used.
+"""The command `galluspa` and its subcommands: a module of this folder for each, or of `packaging/` if only a clone has it, which
+is imported when it is used.
 
 The module of a subcommand has `parser()`, which returns its command line, and `main(asked)`, which carries out what a
 command line asks for and returns the exit status.
@@ -13,13 +14,15 @@ from pathlib import Path
 from types import ModuleType
 from typing import Any
 
-from galluspa.command import OK, REFUSED, WRONG, Parser, Refused, name_as
-from galluspa.places import IS_CLONE
+from galluspa.process.cli import OK, REFUSED, WRONG, Parser, Refused, name_as
+from galluspa.process.paths import IS_CLONE
 
 NAME = "galluspa"
 ABOUT = "Emulates the workstation of Project Oberon (2013), records sessions of it, and checks recordings."
 # The subcommand that is meant if the first word names a file.
 CHECK = "check"
+# The package of the subcommands that only a clone has.
+PACKAGING = "galluspa.packaging"
 
 
 @dataclass(frozen=True)
@@ -37,7 +40,8 @@ class Command:
 
     def module(self) -> ModuleType:
         """Imports its module."""
-        return import_module(f"{__name__}.{self.name.replace('-', '_')}")
+        folder = PACKAGING if self.is_of_clone else __name__
+        return import_module(f"{folder}.{self.name.replace('-', '_')}")
 
     def parser(self) -> Parser:
         """Returns its command line."""
@@ -46,6 +50,7 @@ class Command:
         return parser
 
 
+# The one list of the subcommands: for the help, the manual page and the completion. tools/README.md says which page shows each.
 GROUPS = {
     "Check, record and run": (
         Command(CHECK, "print the verdict lines of recordings; `galluspa FILE ..` does the same"),
@@ -62,9 +67,10 @@ GROUPS = {
     ),
     "Look into a recording": (
         Command("report", "make one page of a recording, to attach to a bug report"),
-        Command("recording-of", "take the recording out of a report that `report --live` made"),
+        Command("recording-of", "take the recording out of a live report or an exported project"),
         Command("explain", "say why a recording is false, or why a recording or a session is refused"),
         Command("find", "find when something happens in a run: the first time, the last or each"),
+        Command("why", "say where a value comes from: who wrote it, from which values, who wrote these, and so on"),
         Command("state", "print the machine at any count: registers, devices, memory, stack and screen"),
         Command("debug", "debug the recorded program, forward and backward, with the words of gdb"),
         Command("trace", "print the instructions of a run, and what each changes"),
@@ -82,8 +88,7 @@ GROUPS = {
         Command("fuzz", "find a small program on which another emulator and the machine differ"),
         Command("shrink", "make a session small, as long as a command says that it is still wrong"),
         Command("compare-trace", "find the first line of another emulator's trace that differs from the machine"),
-        Command("slice", "cut the stretch between two checkpoints out of a recording"),
-        Command("join", "make the verdict line of a recording from the lines of its slices"),
+        Command("slice", "cut the segments between two checkpoints out of a recording"),
         Command("claim", "change one claim of a recording"),
     ),
     "Build from a clone": (
@@ -114,7 +119,7 @@ class _Version(Action):
     """Prints the version, which takes time to find out, and ends."""
 
     def __call__(self, parser: ArgumentParser, *_: object) -> None:
-        from galluspa.version import version
+        from galluspa.process.version import version
 
         print(f"{NAME} {version()}")
         parser.exit()
@@ -126,7 +131,7 @@ def parser() -> Parser:
         f"{ABOUT}\n\n{_listing()}\n\n`{NAME} help COMMAND` prints the usage of a command.",
         f"{NAME} examples/face.orsr",
         {
-            OK: "the recording is accepted, or what was asked for is printed",
+            OK: "the recording is accepted, or the output is printed",
             WRONG: "a recording is false",
             REFUSED: "a file or an argument is refused",
         },

@@ -11,25 +11,17 @@ from collections.abc import Iterable, Iterator, Sequence
 from pathlib import Path
 from textwrap import dedent
 
-from galluspa import endings, settings
-from galluspa.assembly import Assembly, Problem, assembled
-from galluspa.command import OK, Parser, Refused, write_file
-from galluspa.escapes import printable
-from galluspa.reference import reference
-from galluspa.sources import read_sources
-from galluspa.statements import INSTRUCTION, Statement
-from galluspa.symbols import (
-    CODE,
-    CONSTANT,
-    DATA,
-    LONGEST_NAME,
-    MOST_BYTES,
-    MOST_LINES,
-    WORDS,
-    Source,
-    Symbol,
-    written,
-)
+from galluspa.analysis import endings
+from galluspa.assembler.assembly import Assembly, Problem, assembled
+from galluspa.assembler import settings
+from galluspa.assembler.reference import reference
+from galluspa.assembler.sources import read_sources
+from galluspa.assembler.statements import INSTRUCTION, Statement
+from galluspa.formats.builds import sums_of
+from galluspa.formats.symbolfiles import LONGEST_NAME, MOST_BYTES, MOST_LINES, written
+from galluspa.formats.symbols import CODE, CONSTANT, DATA, WORDS, Source, Symbol
+from galluspa.process.cli import OK, Output, Parser, Refused, refuse_overwriting, write_file
+from galluspa.process.escapes import printable
 
 
 def parser() -> Parser:
@@ -45,9 +37,9 @@ def parser() -> Parser:
     )
     options.add_argument("files", metavar="FILE", type=Path, nargs="*", help="the sources, one after the other")
     what = options.add_mutually_exclusive_group()
-    what.add_argument("-o", "--output", metavar="SESSION", type=Path, help="write the session into a file")
+    what.add_argument("-o", "--output", metavar="SESSION", type=Output, help="write the session into a file")
     what.add_argument(
-        "--image", metavar="IMAGE", type=Path, help="write the memory into a file, from byte 0 to the last that is filled"
+        "--image", metavar="IMAGE", type=Output, help="write the memory into a file, from byte 0 to the last that is filled"
     )
     what.add_argument(
         "--words",
@@ -61,12 +53,12 @@ def parser() -> Parser:
     options.add_argument(
         "--symbols",
         metavar="FILE",
-        type=Path,
+        type=Output,
         help="write a symbol file, too: the labels, the constants, and the line of each instruction",
     )
     options.add_program_option()
     options.add_library_option()
-    options.add_limit_option("look for an end of the run for so many seconds, if the source says `until`")
+    options.add_limit_option("look for an end of the run for this many seconds, if the source says `until`")
     return options
 
 
@@ -135,14 +127,16 @@ def symbol_file(it: Assembly) -> bytes:
 
     symbols = (symbol for symbol in symbols_of(it) if len(symbol.name) <= LONGEST_NAME)
     lines = (line_of(statement) for statement in it.statements if statement.does == INSTRUCTION)
-    text = written(symbols, lines).encode()
+    code = (at for it in it.statements if it.does == INSTRUCTION for at in range(it.here, it.here + it.size, 4))
+    sums = sums_of(bytes(it.memory), code, (line.file for line in it.sources))
+    text = (written(symbols, lines) + "".join(f"{line}\n" for line in sums)).encode()
     if text.count(b"\n") >= MOST_LINES or len(text) > MOST_BYTES:
         raise Refused(f"a symbol file has at most {MOST_LINES:,} lines and {MOST_BYTES:,} bytes: leave out --symbols")
     return text
 
 
 def end_of(asked: Namespace, it: Assembly, made: settings.Settings) -> int | None:
-    """Returns the count at which the run ends as the line with until says; None if there is no such line."""
+    """Returns the count at which the run ends by the line with until; None without such a line."""
     if not made.until:
         return None
     try:
@@ -153,13 +147,15 @@ def end_of(asked: Namespace, it: Assembly, made: settings.Settings) -> int | Non
 
 
 def main(asked: Namespace) -> int:
-    """Prints or writes what was asked for."""
+    """Prints or writes the session, the image or the words."""
     if asked.reference:
         sys.stdout.write(reference())
         return OK
     if not asked.files:
         raise Refused("name a source (see galluspa assemble --help)")
-    it = assembled(read_sources(asked.files))
+    sources = read_sources(asked.files)
+    refuse_overwriting(filter(None, [asked.output, asked.image, asked.symbols]), {line.file for line in sources})
+    it = assembled(sources)
     made = settings.settings_of(it)
     refuse_if_wrong(asked, it, it.problems)
     symbols = symbol_file(it) if asked.symbols else b""

@@ -14,24 +14,28 @@ from itertools import groupby, islice
 from pathlib import Path
 from textwrap import dedent
 
-from galluspa import recording, states
-from galluspa.command import Parser, Refused, progress, whole_number
-from galluspa.coverage import unexercised
-from galluspa.emulators import PLACE, Emulator, Shown
-from galluspa.executed import executed
-from galluspa.explanation import Difference, table
-from galluspa.initial import recording_of
-from galluspa.library import Library, Machine, Sent
-from galluspa.naming import Trace, named_row
-from galluspa.program import Program
-from galluspa.sessions import COUNTS
-from galluspa.symbols import NONE, Symbols, symbols_for
-from galluspa.tracing import Run, differing
+from galluspa.analysis.calltrace import Trace
+from galluspa.analysis.countedcoverage import executed
+from galluspa.analysis.coverage import unexercised
+from galluspa.analysis.explanation import Difference, table
+from galluspa.analysis.naming import named_row
+from galluspa.emulators.oneshot import PLACE, Emulator, Shown, add_command, add_seconds_option, require
+from galluspa.engine.initial import recording_of
+from galluspa.engine.library import Library
+from galluspa.engine.machine import Machine, Sent
+from galluspa.engine.program import Program
+from galluspa.engine.tracing import Run, differing
+from galluspa.formats import recording, states
+from galluspa.formats.builds import tell_misfit
+from galluspa.formats.sessions import COUNTS
+from galluspa.formats.symbolfiles import symbols_for
+from galluspa.formats.symbols import NONE, Symbols
+from galluspa.process.cli import Parser, Refused, progress, whole_number
 
 STEPS = 10
 SECONDS = 600
 WORDS_SHOWN = 64
-# A run of at most so many instructions is compared at each count, and a longer one after at most so many of its inputs.
+# A run of at most this many instructions is compared at each count, and a longer one after at most this many of its inputs.
 SHORT = 1000
 AFTER_INPUTS = 1000
 
@@ -59,7 +63,7 @@ class Search:
     parted: Look | None = None
 
     def is_same(self, count: int) -> bool:
-        """Returns whether they are the same at a later count too; if so, the search goes on from there."""
+        """Returns whether both are the same at a later count too; if so, the search continues there."""
         self.asked += 1
         progress(f"run {self.asked}: the same at {self.machine.count:,}, looking at {count:,}")
         machine = self.machine.copy()
@@ -94,7 +98,7 @@ def parser() -> Parser:
         f"galluspa bisect examples/keys.json -- ./state keys.orsr {PLACE} memory.bin",
     )
     options.add_argument("session", metavar="SESSION", type=Path, help="a session, or a recording")
-    options.add_argument("command", metavar="COMMAND", nargs="+", help="after --: the command and its arguments")
+    add_command(options)
     options.add_argument(
         "--from",
         metavar="N",
@@ -120,13 +124,7 @@ def parser() -> Parser:
         default=STEPS,
         help=f"print the last M instructions up to it (default {STEPS})",
     )
-    options.add_argument(
-        "--seconds",
-        metavar="S",
-        type=whole_number(1, 1 << 20),
-        default=SECONDS,
-        help=f"how many seconds COMMAND may take each time (default {SECONDS})",
-    )
+    add_seconds_option(options, "--seconds", SECONDS)
     options.add_symbols_option()
     options.add_program_option()
     options.add_library_option()
@@ -134,12 +132,12 @@ def parser() -> Parser:
 
 
 def is_doubling(first: int, to: int, every: int | None) -> bool:
-    """Returns whether not each count, or every so many, is looked at from one up to another."""
+    """Returns whether counts are tried at doubling distances: in a long run, without --every."""
     return every is None and to - first > SHORT
 
 
 def counts_of(first: int, to: int, every: int | None, inputs: Sequence[int]) -> Iterator[int]:
-    """Yields the counts after a first one to look at before bisecting, the last one among them: every so many, or if that is not
+    """Yields the counts after a first one to look at before bisecting, the last one among them: each `every`, or if that is not
     said, each of a short run, and else 1, 2, 4, 8 .. later and those after some of the inputs, whose counts are given."""
     if is_doubling(first, to, every):
         length = to - first
@@ -152,14 +150,14 @@ def counts_of(first: int, to: int, every: int | None, inputs: Sequence[int]) -> 
 
 
 def some_of(counts: Sequence[int]) -> Sequence[int]:
-    """Returns the different counts among these, or so many of them as are looked at, evenly spread."""
+    """Returns the different counts among these, or at most AFTER_INPUTS of them, evenly spread."""
     different = [count for count, _ in groupby(counts)]
     return different[:: -(-len(different) // AFTER_INPUTS) or 1]
 
 
 def sameness(asked: int, to: int, tried: int, inputs: int) -> str:
     """Returns the line that says that the two never differ at the counts that were looked at; `tried` are those after inputs,
-    of which there are so many."""
+    of which there are `inputs`."""
     line = f"the same at {to}, and at each of the {asked} counts that were looked at"
     return f"{line}; {tried:,} of {inputs:,} counts after inputs are among them" if tried < inputs else line
 
@@ -182,7 +180,7 @@ def not_exercised(run: Run, first: int, to: int) -> Iterator[str]:
         some = f"of the {found.looked_at:,} instructions that were looked at, of {number:,},"
         yield f"none {all_of_them if found.looked_at == number else some} is one of these:"
         yield from (f"{name}: {', '.join(names)}" for name, names in rows)
-        yield "the recordings of examples/suite exercise them all (docs/suites.md says how to run an emulator on them)"
+        yield "the recordings of examples/suite exercise them all (docs/testing-an-emulator.md says how to run an emulator on them)"
 
 
 def report(search: Search, parted: Look, steps: int, symbols: Symbols = NONE) -> Iterator[str]:
@@ -231,18 +229,15 @@ def begin(asked: Namespace, run: Run) -> Search:
 
 def main(asked: Namespace) -> int:
     """Prints where the two emulators part."""
-    if not any(PLACE in word for word in asked.command):
-        raise Refused(f"put {PLACE} into an argument of COMMAND")
+    require(asked.command, PLACE)
     library, program = Library.find(asked.library), Program.find(asked.program)
     symbols = symbols_for(asked.symbols, asked.session)
-    text, last = recording_of(program, asked.session)
-    to = asked.to or last
-    if not to:
-        raise Refused(f"{asked.session}: no checkpoint: give --to N")
+    text, to = recording_of(program, asked.session, asked.to)
     if asked.first >= to:
         raise Refused(f"--from {asked.first} is not before {to}, the last count to try")
     read = recording.read(text)
-    search = begin(asked, Run(library, text, read, range(1)))
+    tell_misfit(symbols, read.first_memory)
+    search = begin(asked, Run(library, read, range(1)))
     inputs = [event.count for event in read.events if asked.first <= event.count < to]
     inputs = inputs if is_doubling(asked.first, to, asked.every) else []
     tried = some_of(inputs)

@@ -5,10 +5,10 @@ from argparse import Namespace
 from pathlib import Path
 from textwrap import dedent
 
-from galluspa.answers import carry_out, files_of
-from galluspa.command import OK, REFUSED, WRONG, Parser
-from galluspa.escapes import printable
-from galluspa.program import WORDS_REFUSED, Program
+from galluspa.engine.programcommands import carry_out, files_of
+from galluspa.engine.program import WORDS_REFUSED, Program
+from galluspa.process.cli import OK, REFUSED, WRONG, Parser
+from galluspa.process.escapes import printable
 
 MOST_WORKERS = 64
 
@@ -35,7 +35,7 @@ def parser() -> Parser:
         "--workers",
         metavar="N",
         default=str(min(os.cpu_count() or 1, MOST_WORKERS)),
-        help="replay segments in N threads, from 1 to 64 (default: as many as there are processors)",
+        help="replay segments in N threads, from 1 to 64 (default: the number of CPUs)",
     )
     options.add_argument("--cut", metavar="N", help="let a thread take N segments in a row at once, from 1 to 4096 (default 1)")
     options.add_program_option()

@@ -4,11 +4,12 @@ from argparse import Namespace
 from dataclasses import replace
 from pathlib import Path
 
-from galluspa import recording
-from galluspa.command import Parser, Refused, number, read_file, whole_number, write_bytes
-from galluspa.program import Program
-from galluspa.recording import Checkpoint
-from galluspa.states import REGISTERS, WORDS
+from galluspa.engine.program import Program
+from galluspa.formats import recording
+from galluspa.formats.recording import Checkpoint
+from galluspa.formats.sessions import CHECKPOINTS
+from galluspa.formats.states import REGISTERS, WORDS
+from galluspa.process.cli import Parser, Refused, number, read_file, whole_number, write_bytes
 
 
 def parser() -> Parser:
@@ -18,7 +19,7 @@ def parser() -> Parser:
         "galluspa claim examples/face.orsr --at 1 --set R5=9 > false.orsr",
     )
     options.add_argument("recording", metavar="RECORDING", type=Path)
-    options.add_argument("--at", metavar="K", type=whole_number(0, 4096), required=True, help="the number of the checkpoint")
+    options.add_argument("--at", metavar="K", type=whole_number(0, CHECKPOINTS), required=True, help="the number of the checkpoint")
     options.add_argument(
         "--set",
         metavar="NAME=VALUE",
@@ -39,9 +40,9 @@ def claiming(checkpoint: Checkpoint, name: str, value: int) -> Checkpoint:
 
 
 def main(asked: Namespace) -> int:
-    """Prints the recording that was asked for."""
+    """Prints the recording with the changed claim."""
     program = Program.find(asked.program)
-    read = recording.lawful(program, str(asked.recording), read_file(asked.recording))
+    read = program.decoded(str(asked.recording), read_file(asked.recording))
     name, _, written = asked.set.partition("=")
     value = number(written)
     if name not in (*REGISTERS, *WORDS) or value is None or value >= 1 << 32:
@@ -53,6 +54,6 @@ def main(asked: Namespace) -> int:
         raise Refused(f"{asked.recording}: no checkpoint {asked.at}")
     read.checkpoints[asked.at] = claiming(read.checkpoints[asked.at], name, value)
     text = recording.write(read)
-    recording.lawful(program, f"--set {asked.set}", text)
+    program.decoded(f"--set {asked.set}", text)
     write_bytes(text)
     return 0

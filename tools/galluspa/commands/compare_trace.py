@@ -13,18 +13,19 @@ from pathlib import Path
 from textwrap import dedent
 from typing import BinaryIO
 
-from galluspa.command import OK, WRONG, Parser, Refused, complain, opened_file, progress, read_file, whole_number
-from galluspa.escapes import printable
-from galluspa.executions import run_of
-from galluspa.explanation import table
-from galluspa.library import Library
-from galluspa.limits import Limit
-from galluspa.naming import named_object, named_row, placed_lines
-from galluspa.sessions import COUNTS
-from galluspa.symbols import Symbols, symbols_for
-from galluspa.tracecomparison import Compared, Difference, Gave, Parted, compare, gave
-from galluspa.tracefiles import ADDRESS, COUNT, LONGEST_LINE, Form, TraceFile
-from galluspa.tracing import Run
+from galluspa.analysis.explanation import NOT_SOUGHT, table
+from galluspa.analysis.naming import named_object, named_row, placed_lines
+from galluspa.emulators.tracecomparison import Compared, Difference, Gave, Parted, compare, gave
+from galluspa.engine.library import Library
+from galluspa.engine.tracing import Run
+from galluspa.formats.builds import tell_misfit
+from galluspa.formats.sessions import COUNTS
+from galluspa.formats.symbolfiles import symbols_for
+from galluspa.formats.symbols import Symbols
+from galluspa.formats.tracefiles import ADDRESS, COUNT, LONGEST_LINE, Form, TraceFile
+from galluspa.process.cli import OK, WRONG, Parser, Refused, complain, opened_file, progress, read_file, whole_number
+from galluspa.process.escapes import printable
+from galluspa.process.timelimit import Limit
 
 STANDARD_INPUT = "-"
 
@@ -59,11 +60,11 @@ def parser() -> Parser:
         metavar="N",
         dest="first",
         type=whole_number(0, COUNTS),
-        help=f"the count of the first line, if there is no column {COUNT} (default 0)",
+        help=f"the count of the first line, without a column {COUNT} (default 0)",
     )
     options.add_argument("--json", action="store_true", help="print what was found as one JSON object")
     options.add_symbols_option()
-    options.add_limit_option("end after so many seconds of the machine, and say how far it came")
+    options.add_limit_option("end after this many seconds of the machine, and say how far it came")
     options.add_library_option()
     return options
 
@@ -133,10 +134,11 @@ def _instructions(found: Gave, symbols: Symbols) -> Iterator[str]:
     yield from placed_lines(found.step, symbols)
     yield "the trace:"
     yield found.trace_line()
-    for name, step in found.written:
+    for name, it in found.written:
         yield ""
-        yield f"who wrote {name}:" if step else f"who wrote {name}: no instruction before, as far as can be searched"
-        yield from placed_lines(step, symbols) if step else []
+        none = " no search finds it" if name in NOT_SOUGHT else " no instruction before"
+        yield f"who wrote {name}:{'' if it else none}"
+        yield from it.lines(symbols) if it else []
 
 
 def as_object(run: Run, trace: TraceFile, compared: Compared, symbols: Symbols) -> dict[str, object]:
@@ -154,7 +156,7 @@ def as_object(run: Run, trace: TraceFile, compared: Compared, symbols: Symbols) 
         "differs": {it.name: [it.trace, it.machine] for it in parted.differences},
         "machine": named_object(found.step, symbols) if found else None,
         "trace": found.trace_object() if found else None,
-        "written_by": {name: named_object(step, symbols) if step else None for name, step in found.written} if found else {},
+        "written_by": {name: named_object(it.step, symbols) if it else None for name, it in found.written} if found else {},
     }
 
 
@@ -162,7 +164,8 @@ def main(asked: Namespace) -> int:
     """Prints where a trace and the machine differ; the status says whether they do."""
     library = Library.find(asked.library, Limit(asked.limit))
     symbols = symbols_for(asked.symbols, asked.recording)
-    run = run_of(library, read_file(asked.recording))
+    run = Run.begun(library, read_file(asked.recording))
+    tell_misfit(symbols, run.first_memory)
     trace = trace_of(asked)
     compared = compare(run, trace, lambda count: progress(f"the same up to {count:,}"))
     progress("")

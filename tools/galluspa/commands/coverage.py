@@ -9,17 +9,16 @@ from argparse import Namespace
 from pathlib import Path
 from textwrap import dedent
 
-from galluspa import recording
-from galluspa.command import Parser, Refused, progress, whole_number, with_libraries, write_file
-from galluspa.coverage import Coverage
-from galluspa.coveragetext import lines
-from galluspa.escapes import printable
-from galluspa.library import Library
-from galluspa.limits import Limit, TimeIsUp
-from galluspa.program import Program
-from galluspa.steps import steps_of, stretches_of
-from galluspa.suites import Case, cases_of
-from galluspa.tracing import Run
+from galluspa.analysis.coverage import Coverage
+from galluspa.analysis.sampledsteps import steps_of, spans_of
+from galluspa.engine.library import Library
+from galluspa.engine.program import Program
+from galluspa.engine.tracing import Run
+from galluspa.output.coveragetext import lines
+from galluspa.process.cli import Output, Parser, Refused, progress, whole_number, with_libraries, write_file
+from galluspa.process.escapes import printable
+from galluspa.process.timelimit import Limit, TimeIsUp
+from galluspa.suites.cases import Case, cases_of
 
 
 def parser() -> Parser:
@@ -43,8 +42,8 @@ def parser() -> Parser:
         help="examine at most N instructions of a recording (default 20,000)",
     )
     options.add_argument("--tables", action="store_true", help="print each table, with how often each item was seen")
-    options.add_argument("--page", metavar="FILE", help="write the tables as one page (HTML)")
-    options.add_limit_option("end after so many seconds, and name the recordings that were not examined by then")
+    options.add_argument("--page", metavar="FILE", type=Output, help="write the tables as one page (HTML)")
+    options.add_limit_option("end after this many seconds, and name the recordings that were not examined by then")
     options.add_program_option()
     options.add_library_option()
     return options
@@ -55,20 +54,20 @@ def add(seen: Coverage, machines: tuple[Program, Library], case: Case, most: int
     program, library = machines
     try:
         content = case.content()
-        read = recording.lawful(program, case.name, content)
-        stretches = stretches_of(read, most)
-        seen.add(case.name, steps_of(Run(library, content, read, range(1)), stretches))
+        read = program.decoded(case.name, content)
+        spans = spans_of(read, most)
+        seen.add(case.name, steps_of(Run(library, read, range(1)), spans))
     except Refused as refusal:
         return printable(str(refusal))
     except TimeIsUp as over:
         return f"{case.name}: {over}"
-    last, seen_of_it = read.checkpoints[-1].count, sum(map(len, stretches))
+    last, seen_of_it = read.checkpoints[-1].count, sum(map(len, spans))
     return "" if seen_of_it == last else f"{case.name}: {last - seen_of_it:,} of {last:,} instructions"
 
 
 def main(asked: Namespace) -> int:
     """Prints what the recordings of suites exercise."""
-    page = with_libraries("galluspa.coveragepage").page if asked.page else None
+    page = with_libraries("galluspa.output.coveragepage").page if asked.page else None
     limit = Limit(asked.limit)
     machines = Program.find(asked.program, limit), Library.find(asked.library, limit)
     cases = [case for folder in asked.folders for case in cases_of(folder)]

@@ -13,19 +13,19 @@ from pathlib import Path
 from textwrap import dedent
 from types import FrameType
 
-from galluspa.command import FAILED, OK, REFUSED, Failed, Parser, Refused, complain, read_file, whole_number
-from galluspa.debugging import COMMANDS, Commands, Ended
-from galluspa.escapes import printable
-from galluspa.library import Library
-from galluspa.limits import TimeIsUp
-from galluspa.program import Program
-from galluspa.sessions import COUNTS
-from galluspa.sourcetext import Sources
-from galluspa.symbols import symbols_for
-from galluspa.timeline import Debugger, Interrupted, Patience, Timeline
-from galluspa.tracing import MOST_WORKERS, WORKERS, Run
+from galluspa.analysis.calls import add_stack_limit_option
+from galluspa.analysis.timeline import Interrupted, Patience, Timeline
+from galluspa.debugger.commands import COMMANDS, Commands, Ended
+from galluspa.debugger.navigation import Debugger
+from galluspa.engine.opening import opened
+from galluspa.engine.tracing import add_workers_option
+from galluspa.formats.sessions import COUNTS
+from galluspa.formats.sourcetext import Sources
+from galluspa.process.cli import FAILED, OK, REFUSED, Failed, Parser, Refused, complain, read_file, whole_number
+from galluspa.process.escapes import printable
+from galluspa.process.timelimit import TimeIsUp
 
-# A file of commands has at most so many bytes.
+# The most bytes of a file of commands.
 MOST_BYTES = 1 << 20
 # Where words end for the completion: names have dots, signs and dashes in them.
 BETWEEN = " \t\n"
@@ -33,7 +33,7 @@ BETWEEN = " \t\n"
 
 def parser() -> Parser:
     """Returns the command line of this tool."""
-    listed = "\n".join(f"  {f'{it.name} {it.arguments}'.rstrip():28}{it.does}" for it in COMMANDS)
+    listed = "\n".join(f"  {f'{it.name} {it.arguments}'.rstrip():30}  {it.does}" for it in COMMANDS)
     options = Parser(
         dedent(
             """\
@@ -54,7 +54,7 @@ def parser() -> Parser:
         action=_Given,
         dest="given",
         default=[],
-        help="carry out the commands in a file, a line each; may be used several times",
+        help="carry out the commands in a file, a line each; repeatable",
     )
     options.add_argument(
         "-ex",
@@ -63,11 +63,9 @@ def parser() -> Parser:
         action=_Given,
         dest="given",
         default=[],
-        help="carry out a command; may be used several times, and with -x, in their order",
+        help="carry out a command; repeatable, and with -x, in their order",
     )
-    options.add_argument(
-        "--batch", action="store_true", help="end after these commands, or with status 2 at the first that is refused"
-    )
+    options.add_argument("--batch", action="store_true", help="end after these commands, or with status 2 at the first error")
     options.add_argument("--at", metavar="N", type=whole_number(0, COUNTS), default=0, help="the count to begin at (default 0)")
     options.add_argument(
         "--directory",
@@ -75,19 +73,13 @@ def parser() -> Parser:
         type=Path,
         action="append",
         default=[],
-        help="look for the sources in this folder (default: the current one, and that of the symbol "
-        "file); may be used several times",
+        help="also show sources that are below this folder (default: those below the folder of the symbol file); may be "
+        "used several times",
     )
+    add_stack_limit_option(options)
     options.add_symbols_option()
-    options.add_argument(
-        "-j",
-        "--jobs",
-        metavar="N",
-        type=whole_number(1, MOST_WORKERS),
-        default=WORKERS,
-        help="search N segments at the same time (default: as many as there are processors)",
-    )
-    options.add_limit_option("end a command after so many seconds")
+    add_workers_option(options)
+    options.add_limit_option("end a command after this many seconds")
     options.add_program_option()
     options.add_library_option()
     return options
@@ -127,7 +119,7 @@ class Shell(cmd.Cmd):
         self._prompt()
 
     def _prompt(self) -> None:
-        self.prompt = f"({self.commands.debugger.count}) "
+        self.prompt = "> " if self.commands.commanded else f"({self.commands.debugger.count}) "
 
     def carry_out(self, line: str) -> None:
         """Carries out a command, and prints what it says. An empty line and a comment do nothing."""
@@ -141,8 +133,8 @@ class Shell(cmd.Cmd):
             self._prompt()
 
     def onecmd(self, line: str) -> bool:
-        """Carries out a line that a user types, or if it is empty the last move again. What is wrong with it is said,
-        and the user goes on."""
+        """Carries out a line that a user types, or if it is empty the last move again. A mistake in it is a line, and the
+        debugger continues."""
         line = line if line.strip() else self.again
         if line == "EOF":
             print()
@@ -180,7 +172,7 @@ class Shell(cmd.Cmd):
         return self.completed[state] if state < len(self.completed) else None
 
     def preloop(self) -> None:
-        """Has words end at blanks alone."""
+        """Makes blanks the only ends of words."""
         with contextlib.suppress(ImportError):
             import readline
 
@@ -204,7 +196,7 @@ class Shell(cmd.Cmd):
 
 
 def carry_out(shell: Shell, lines: Iterator[tuple[str, str]]) -> None:
-    """Carries out commands, each printed after the count as if it were typed; refused at the first that is refused."""
+    """Carries out commands, each printed after the count as if it were typed, up to the first that is refused."""
     for where, line in lines:
         if line.strip():
             print(f"{shell.prompt}{printable(line)}")
@@ -220,7 +212,7 @@ def carry_out(shell: Shell, lines: Iterator[tuple[str, str]]) -> None:
 
 
 def follow(shell: Shell, lines: Iterator[str]) -> int:
-    """Carries out the commands of a standard input that is no terminal. One that is refused is one line, and the
+    """Carries out the commands of a standard input that is not a terminal. A refusal is one line, and the
     status says so at the end."""
     status = OK
     for line in lines:
@@ -236,16 +228,16 @@ def follow(shell: Shell, lines: Iterator[str]) -> int:
 
 def main(asked: Namespace) -> int:
     """Debugs the recording that is named."""
-    symbols = symbols_for(asked.symbols, asked.recording)
     patience = Patience(asked.limit)
-    program = Program.find(asked.program, patience)
-    run = Timeline(Run.checked(Library.find(asked.library, patience), program, asked.recording))
-    if asked.at > run.end:
-        raise Refused(f"--at {asked.at} is after the last checkpoint, which is at {run.end}")
-    folders = [*asked.directory, Path(), (asked.symbols or asked.recording).parent]
-    shell = Shell(Commands(Debugger(run, symbols, asked.jobs, asked.at), program, Sources(folders)), patience)
+    it = opened(asked, patience)
+    run, at = Timeline(it.run), it.count(asked.at)
+    folders = [*asked.directory, (asked.symbols or asked.recording).parent]
+    debugger = Debugger(run, it.symbols, asked.jobs, at, asked.stack_limit)
+    shell = Shell(Commands(debugger, it.program, Sources(folders)), patience)
     try:
         carry_out(shell, given_lines(asked))
+        if asked.batch and shell.commands.commanded:
+            raise Refused(f"the commands of point {shell.commands.commanded.number} have no end")
         if asked.batch:
             return OK
         if not sys.stdin.isatty():

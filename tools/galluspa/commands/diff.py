@@ -9,20 +9,20 @@ from collections.abc import Iterator, Sequence, Set
 from pathlib import Path
 from textwrap import dedent
 
-from galluspa import recording
-from galluspa.command import FAILED, OK, WRONG, Parser, complain, read_file
-from galluspa.comparison import PARTS, Found, found_of
-from galluspa.conditions import writing
-from galluspa.escapes import printable
-from galluspa.explanation import table
-from galluspa.finding import Search
-from galluspa.library import Library
-from galluspa.limits import Limit, TimeIsUp
-from galluspa.naming import named_row, placed_lines
-from galluspa.program import Program
-from galluspa.recording import Recording
-from galluspa.symbols import Symbols, symbols_for
-from galluspa.tracing import WORKERS, Run
+from galluspa.analysis.comparison import PARTS, Found, found_of
+from galluspa.analysis.explanation import NOT_SOUGHT, table
+from galluspa.analysis.lastwrites import last_write
+from galluspa.analysis.naming import named_row
+from galluspa.engine.library import Library
+from galluspa.engine.program import Program
+from galluspa.engine.tracing import WORKERS, Run
+from galluspa.formats.builds import tell_misfit
+from galluspa.formats.recording import Recording
+from galluspa.formats.symbolfiles import symbols_for
+from galluspa.formats.symbols import Symbols
+from galluspa.process.cli import FAILED, OK, WRONG, Parser, complain, read_file
+from galluspa.process.escapes import printable
+from galluspa.process.timelimit import Limit, TimeIsUp
 
 
 def parser() -> Parser:
@@ -49,8 +49,8 @@ def parser() -> Parser:
     options.add_argument(
         "--all",
         action="store_true",
-        help="go on after the first difference: print all inputs, checkpoints and parts that differ, "
-        "but not more than some of the inputs and of the words of each checkpoint",
+        help="report every difference in inputs, checkpoints and parts, up to a number of inputs, and of words of each "
+        "checkpoint",
     )
     options.add_argument(
         "--who",
@@ -59,7 +59,7 @@ def parser() -> Parser:
         "each: from what the checkpoint before claims, whether or not that is true",
     )
     options.add_symbols_option()
-    options.add_limit_option("with --who, end after so many seconds")
+    options.add_limit_option("with --who, end after this many seconds")
     options.add_program_option()
     options.add_library_option()
     return options
@@ -85,15 +85,15 @@ class Writers:
         """Yields the lines that say so."""
         if it.part is None or not it.checkpoint:
             return
-        for (side, text, read, symbols), value in zip(self._sides, it.values, strict=True):
-            run = Run(self._library, text, read, range(it.checkpoint - 1, it.checkpoint))
+        for side, text, read, symbols in self._sides:
+            run = Run(self._library, read, range(it.checkpoint - 1, it.checkpoint))
             first, end = run.counts[it.checkpoint - 1 : it.checkpoint + 1]
-            condition = writing(it.part, value)
-            hit = Search(run, [condition], first, end, WORKERS).last() if condition else None
-            if hit:
-                yield from (f"    {side} {line}" for line in placed_lines(hit.step, symbols))
+            if found := last_write(run, it.part, first, end, WORKERS):
+                yield from (f"    {side} {line}" for line in found.lines(symbols))
+            elif it.part in NOT_SOUGHT:
+                yield f"    {side} {' ':>9} no search finds what wrote it"
             else:
-                yield f"    {side} {' ':>9} no instruction from {first} to {end} wrote it, as far as can be searched"
+                yield f"    {side} {' ':>9} no instruction from {first} to {end} wrote it"
 
 
 def main(asked: Namespace) -> int:
@@ -101,8 +101,9 @@ def main(asked: Namespace) -> int:
     limit = Limit(asked.limit)
     program, paths = Program.find(asked.program), (asked.first, asked.second)
     texts = [read_file(path) for path in paths]
-    one, other = read = [recording.lawful(program, str(path), text) for path, text in zip(paths, texts)]
+    one, other = read = [program.decoded(str(path), text) for path, text in zip(paths, texts)]
     symbols = symbols_for(asked.symbols, *paths)
+    tell_misfit(symbols, one.first_memory)
     found = list(found_of(one, other, asked.only, asked.all))
     if not found:
         inputs, claims = len(one.events), len(one.checkpoints) - 1
@@ -125,7 +126,7 @@ def main(asked: Namespace) -> int:
 
 
 def writers_of(asked: Namespace, limit: Limit, texts: Sequence[bytes], read: Sequence[Recording], symbols: Symbols) -> Writers:
-    """Returns who wrote, with the names of the symbol file that is asked for, or of that beside each recording."""
+    """Returns who wrote, with the names of the symbol file of the options, or of that beside each recording."""
     is_other = asked.symbols is None and asked.second.with_suffix(".sym") != asked.first.with_suffix(".sym")
     other = symbols_for(None, asked.second) if is_other and asked.second.name else symbols
     return Writers(Library.find(asked.library, limit), texts, read, (symbols, other or symbols))

@@ -4,6 +4,7 @@ The library counts how often each word is executed, so the counts are exact. Eac
 with its inputs, whatever its checkpoints claim.
 """
 
+import contextlib
 import json
 import os
 import sys
@@ -13,15 +14,17 @@ from functools import partial
 from pathlib import Path
 from textwrap import dedent
 
-from galluspa.children import in_parallel
-from galluspa.codecoverage import CodeCoverage
-from galluspa.command import OK, WRONG, Parser, Refused, complain, progress, whole_number, with_libraries, write_file
-from galluspa.escapes import printable
-from galluspa.executions import Executions, executions_of, run_of
-from galluspa.library import Library
-from galluspa.limits import Limit, TimeIsUp
-from galluspa.suites import Case, cases_of
-from galluspa.symbols import symbols_for
+from galluspa.analysis.codecoverage import CodeCoverage
+from galluspa.analysis.executioncounts import Executions, executions_of
+from galluspa.engine.library import Library
+from galluspa.engine.tracing import Run
+from galluspa.formats.builds import tell_misfit
+from galluspa.formats.symbolfiles import symbols_for
+from galluspa.process.children import in_parallel
+from galluspa.process.cli import OK, WRONG, Output, Parser, Refused, complain, progress, whole_number, with_libraries, write_file
+from galluspa.process.escapes import printable
+from galluspa.process.timelimit import Limit, TimeIsUp
+from galluspa.suites.cases import Case, cases_of
 
 
 def parser() -> Parser:
@@ -46,18 +49,19 @@ def parser() -> Parser:
         dest="jobs",
         type=whole_number(1, 1024),
         default=os.cpu_count() or 1,
-        help="run N recordings at a time (default: as many as there are processors)",
+        help="run N recordings at a time (default: the number of CPUs)",
     )
     options.add_symbols_option()
     options.add_argument("--json", action="store_true", help="print the counts as JSON")
     options.add_argument(
         "--info",
         metavar="FILE",
+        type=Output,
         help="write the counts of source lines as a tracefile of lcov, which genhtml and CI systems read; "
         "the symbol file has to have lines",
     )
-    options.add_argument("--page", metavar="FILE", help="write the counts as one page (HTML)")
-    options.add_limit_option("end after so many seconds, and name the recordings that were not counted by then")
+    options.add_argument("--page", metavar="FILE", type=Output, help="write the counts as one page (HTML)")
+    options.add_limit_option("end after this many seconds, and name the recordings that were not counted by then")
     options.add_library_option()
     return options
 
@@ -79,7 +83,7 @@ def cases(suites: list[Path]) -> list[Case]:
 def counted(library: Library, case: Case) -> Counted:
     """Returns the counts of a recording."""
     try:
-        run = run_of(library, case.content())
+        run = Run.begun(library, case.content())
         return Counted(case, executions_of(run, 0, run.counts[-1]))
     except (Refused, TimeIsUp) as why:
         return Counted(case, Executions(), printable(f"{case.name}: {why}".removeprefix(f"{case.name}: {case.name}: ")))
@@ -98,25 +102,35 @@ def all_counted(library: Library, wanted: list[Case], jobs: int) -> tuple[Execut
     return together, unread
 
 
+def first_memory(library: Library, wanted: list[Case]) -> bytes:
+    """Returns the memory with which the first of some recordings begins that can be read."""
+    for it in wanted:
+        with contextlib.suppress(Refused):
+            return library.claim(it.content(), 0).memory()
+    return b""
+
+
 def write(asked: Namespace, summary: str, unread: list[str], found: CodeCoverage) -> None:
-    """Writes the files that were asked for."""
+    """Writes the files of the options."""
     if asked.info:
         write_file(asked.info, "".join(f"{line}\n" for line in found.lcov()).encode())
     if asked.page:
         name = printable(" ".join(path.resolve().name for path in asked.suites))
-        pieces = with_libraries("galluspa.codecoveragepage").page(name, summary, unread, found)
+        pieces = with_libraries("galluspa.output.codecoveragepage").page(name, summary, unread, found)
         write_file(asked.page, "".join(pieces).encode())
 
 
 def main(asked: Namespace) -> int:
     """Prints what the recordings of suites execute; the status is 1 if one of them was not counted."""
     if asked.page:
-        with_libraries("galluspa.codecoveragepage")
+        with_libraries("galluspa.output.codecoveragepage")
     wanted = cases(asked.suites)
     symbols = symbols_for(asked.symbols, *(it.path for it in wanted))
     if asked.info and not symbols.has_lines:
         raise Refused("--info needs a symbol file with source lines (see docs/symbols.md)")
-    seen, unread = all_counted(Library.find(asked.library, Limit(asked.limit)), wanted, asked.jobs)
+    library = Library.find(asked.library, Limit(asked.limit))
+    seen, unread = all_counted(library, wanted, asked.jobs)
+    tell_misfit(symbols, lambda: first_memory(library, wanted))
     found = CodeCoverage.of(seen, symbols)
     if symbols and not any(symbols.text(4 * at) for at in seen.visits):
         raise Refused(f"{symbols.origin} names nothing that is executed: are these the names of another program?")

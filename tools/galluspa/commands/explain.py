@@ -10,16 +10,21 @@ from collections.abc import Iterator
 from pathlib import Path
 from textwrap import dedent
 
-from galluspa import recording
-from galluspa.command import OK, REFUSED, WRONG, Parser, read_file, whole_number
-from galluspa.explanation import WORDS_SHOWN, callers_of, explain_false, plain
-from galluspa.faults import explain_fault
-from galluspa.library import WORDS, Library
-from galluspa.limits import Limit, TimeIsUp
-from galluspa.program import Answer, Program
-from galluspa.sessionfaults import explain_session, is_session
-from galluspa.symbols import Symbols, symbols_for
-from galluspa.tracing import Run
+from galluspa.analysis.explanation import WORDS_SHOWN, callers_of, explain_false, plain
+from galluspa.engine.programcommands import explain_session
+from galluspa.engine.library import Library
+from galluspa.engine.program import Answer, Program
+from galluspa.engine.tracing import Run
+from galluspa.formats import recording
+from galluspa.formats.builds import tell_misfit
+from galluspa.formats.faults import explain_fault
+from galluspa.formats.recording import WORDS
+from galluspa.formats.sessionfaults import is_session
+from galluspa.formats.sessions import COUNTS
+from galluspa.formats.symbolfiles import symbols_for
+from galluspa.formats.symbols import Symbols
+from galluspa.process.cli import OK, REFUSED, WRONG, Parser, read_file, whole_number
+from galluspa.process.timelimit import Limit, TimeIsUp
 
 STEPS = 1000
 
@@ -45,7 +50,7 @@ def parser() -> Parser:
     options.add_argument(
         "--steps",
         metavar="N",
-        type=whole_number(1, 1 << 40),
+        type=whole_number(1, COUNTS),
         default=STEPS,
         help=f"examine N instructions before the false checkpoint one by one, and a tenth of that after "
         f"it (default {STEPS:,}; some ten thousand take a second)",
@@ -58,7 +63,7 @@ def parser() -> Parser:
         help=f"print at most N words of memory (default {WORDS_SHOWN})",
     )
     options.add_symbols_option()
-    options.add_limit_option("end after so many seconds, with what was found by then")
+    options.add_limit_option("end after this many seconds, with what was found by then")
     options.add_program_option()
     options.add_library_option()
     return options
@@ -73,7 +78,8 @@ def explanation(text: bytes, answer: Answer, program: Program, asked: Namespace,
         yield from explain_fault(text, *answer.fault).plain()
     if library and answer.false_claim:
         read = recording.read(text)
-        looked_at = Run.of_answer(library, text, read, answer)
+        tell_misfit(symbols, read.first_memory)
+        looked_at = Run.of_answer(library, read, answer)
         yield ""
         it = explain_false(looked_at, program, read, answer.false_claim, asked.steps)
         try:
@@ -84,7 +90,7 @@ def explanation(text: bytes, answer: Answer, program: Program, asked: Namespace,
 
 
 def main(asked: Namespace) -> int:
-    """Prints the explanation that was asked for; the status is that of the verdict line."""
+    """Prints the explanation of a file; the status is that of the verdict line."""
     text, program = read_file(asked.recording), Program.find(asked.program, Limit(asked.limit))
     if is_session(asked.recording.name, text):
         answer = program.record(text)

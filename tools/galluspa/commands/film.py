@@ -1,7 +1,7 @@
 """Makes a film of the screen of a recording, as an animated PNG, or a picture of one checkpoint.
 
-A film shows what the checkpoints claim, or the machine's own screen every so many instructions. The program draws each
-screen. A film has at most so many frames and bytes; if it ends sooner than the recording, a line on standard error
+A film shows what the checkpoints claim, or the machine's own screen at regular counts. The program draws each
+screen. A film has a limit of frames and bytes; if it ends sooner than the recording, a line on standard error
 says so.
 """
 
@@ -10,9 +10,14 @@ from collections.abc import Iterator
 from pathlib import Path
 from textwrap import dedent
 
-from galluspa import recording
-from galluspa.command import (
+from galluspa.analysis.film import BYTES, FRAME_MS, MOST_FRAME_MS, Film, Shot, picture, shots_of_claims, shots_of_run
+from galluspa.engine.library import Library
+from galluspa.engine.program import Program
+from galluspa.engine.tracing import Run
+from galluspa.formats.sessions import CHECKPOINTS, COUNTS
+from galluspa.process.cli import (
     OK,
+    Output,
     Parser,
     Refused,
     complain,
@@ -22,12 +27,7 @@ from galluspa.command import (
     write_bytes,
     write_file,
 )
-from galluspa.film import BYTES, FRAME_MS, MOST_FRAME_MS, Film, Shot, picture, shots_of_claims, shots_of_run
-from galluspa.interface import Machine
-from galluspa.library import Library
-from galluspa.limits import Limit, TimeIsUp
-from galluspa.program import Program
-from galluspa.sessions import CHECKPOINTS, COUNTS
+from galluspa.process.timelimit import Limit, TimeIsUp
 
 FRAMES, MOST_FRAMES = 1000, 10_000
 
@@ -66,26 +66,26 @@ def parser() -> Parser:
         metavar="MS",
         type=whole_number(1, MOST_FRAME_MS),
         default=FRAME_MS,
-        help=f"show each frame for so many milliseconds (default {FRAME_MS})",
+        help=f"frame duration in milliseconds (default {FRAME_MS})",
     )
     options.add_argument(
         "--frames",
         metavar="N",
         type=whole_number(1, MOST_FRAMES),
         default=FRAMES,
-        help=f"end after so many frames (default {FRAMES:,})",
+        help=f"maximum number of frames (default {FRAMES:,})",
     )
     options.add_argument(
-        "-o", "--output", metavar="FILE", help="write the film or the picture into a file, and not to standard output"
+        "-o", "--output", metavar="FILE", type=Output, help="write the film or the picture into a file instead of standard output"
     )
-    options.add_limit_option("end after so many seconds, with the frames that there are by then")
+    options.add_limit_option("end after this many seconds, with the frames that there are by then")
     options.add_program_option()
     options.add_library_option()
     return options
 
 
 def filmed(film: Film, shots: Iterator[Shot], most: int, last: int) -> str:
-    """Adds shots to a film, so many at most; returns why it ends before a count, or nothing."""
+    """Adds shots to a film, up to a limit; returns why it ends before a count, or nothing."""
     end = None
     try:
         for number, shot in enumerate(shots):
@@ -111,10 +111,10 @@ def written(asked: Namespace, png: bytes) -> None:
 
 
 def main(asked: Namespace) -> int:
-    """Makes the film or the picture that was asked for."""
+    """Makes the film, or the picture of one checkpoint."""
     limit = Limit(asked.limit)
     program, text = Program.find(asked.program, limit), read_file(asked.recording)
-    read = recording.lawful(program, str(asked.recording), text)
+    read = program.decoded(str(asked.recording), text)
     if asked.at is not None:
         if asked.at >= len(read.checkpoints):
             raise Refused(f"{asked.recording}: no checkpoint {asked.at}: the last is {len(read.checkpoints) - 1}")
@@ -124,8 +124,7 @@ def main(asked: Namespace) -> int:
     if asked.every and asked.every > last:
         raise Refused(f"--every {asked.every}: the recording has {last:,} instructions")
     if asked.every:
-        machine = Machine.claim(text, library=Library.find(asked.library, limit))
-        shots = shots_of_run(machine, program, last, asked.every)
+        shots = shots_of_run(Run(Library.find(asked.library, limit), read, range(1)), program, asked.every)
     else:
         shots = shots_of_claims(read, program)
     film = Film(asked.ms)

@@ -11,16 +11,18 @@ from collections.abc import Callable, Iterator
 from pathlib import Path
 from textwrap import dedent
 
-from galluspa.command import FAILED, OK, WRONG, Parser, Refused, complain, whole_number
-from galluspa.conditions import CONDITIONS, conditions_of
-from galluspa.finding import Hit, Search
-from galluspa.library import Library
-from galluspa.limits import Limit, TimeIsUp
-from galluspa.program import Program
-from galluspa.sessions import COUNTS
-from galluspa.symbols import Symbols, symbols_for
-from galluspa.traceformats import JsonLines, TextLines
-from galluspa.tracing import MOST_WORKERS, WORKERS, Run
+from galluspa.analysis.conditions import CONDITIONS, conditions_of
+from galluspa.analysis.search import Hit, Search
+from galluspa.engine.library import Library
+from galluspa.engine.program import Program
+from galluspa.engine.tracing import Run, add_workers_option
+from galluspa.formats.builds import tell_misfit
+from galluspa.formats.sessions import COUNTS
+from galluspa.formats.symbolfiles import symbols_for
+from galluspa.formats.symbols import Symbols
+from galluspa.output.traceformats import JsonLines, TextLines
+from galluspa.process.cli import FAILED, OK, WRONG, Parser, Refused, complain, whole_number
+from galluspa.process.timelimit import Limit, TimeIsUp
 
 MOST = 1000
 
@@ -56,27 +58,21 @@ def parser() -> Parser:
     )
     options.add_symbols_option()
     options.add_argument("--json", action="store_true", help="print one JSON object per line")
-    options.add_argument(
-        "-j",
-        "--jobs",
-        metavar="N",
-        type=whole_number(1, MOST_WORKERS),
-        default=WORKERS,
-        help="search N segments at the same time (default: as many as there are processors)",
-    )
-    options.add_limit_option("end after so many seconds, and say how far that was")
+    add_workers_option(options)
+    options.add_limit_option("end after this many seconds, and say how far that was")
     options.add_program_option()
     options.add_library_option()
     return options
 
 
 def search_of(asked: Namespace, symbols: Symbols) -> Search:
-    """The search that was asked for."""
+    """Returns the search of a command line."""
     conditions = conditions_of(asked.condition, symbols)
     if asked.most is not None and not asked.all:
         raise Refused("use --most with --all")
     limit = Limit(asked.limit)
     it = Run.checked(Library.find(asked.library, limit), Program.find(asked.program, limit), asked.recording)
+    tell_misfit(symbols, it.first_memory)
     last = it.counts[-1]
     to = last if asked.to is None else asked.to
     if to > last:
@@ -116,7 +112,7 @@ def json_of(symbols: Symbols) -> Callable[[Hit], str]:
 
 
 def main(asked: Namespace) -> int:
-    """Prints the hits that were asked for; the status is 1 if there are none."""
+    """Prints the first hit, the last one or all; the status is 1 if there are none."""
     symbols = symbols_for(asked.symbols, asked.recording)
     search, status = search_of(asked, symbols), WRONG
     shown, write = (json_of if asked.json else text_of)(symbols), sys.stdout.write

@@ -1,6 +1,6 @@
 """Finds a small program on which another emulator and the machine differ, by random sessions.
 
-COMMAND is the other emulator: a process that is kept, and answers sessions over its standard input and output; or, if an
+COMMAND is the other emulator: a persistent process that answers sessions over its standard input and output; or, if an
 argument has {count} in it, a command for each session that prints its state, as for `galluspa bisect`. The exit status is
 0 if both are the same in all sessions, 1 if they differ in one, and 2 for bad input.
 """
@@ -11,25 +11,38 @@ import sys
 import time
 from argparse import Namespace
 from collections.abc import Iterator
+from contextlib import closing
 from dataclasses import dataclass, field
 from pathlib import Path
 from textwrap import dedent
 from xml.etree import ElementTree
 
-from galluspa import states
-from galluspa.arena import MEMORY, RECORDING, SESSION, Arena, other_of
-from galluspa.command import OK, WRONG, Failed, Parser, Refused, complain, progress, whole_number, with_libraries, write_file
-from galluspa.coverage import CELLS
-from galluspa.coveragetext import lines
-from galluspa.emulators import PLACE
-from galluspa.escapes import for_tap
-from galluspa.findings import FETCH, Finding
-from galluspa.fuzzing import Broken, Plan, Tally, compared
-from galluspa.instructions import CONDITIONS, OPERATIONS
-from galluspa.library import Library
-from galluspa.limits import Limit
-from galluspa.temporary import temporary_folder
-from galluspa.trials import Trial
+from galluspa.analysis.coverage import CELLS
+from galluspa.emulators.fuzzing import Broken, Plan, Tally, compared
+from galluspa.emulators.fuzzreports import FETCH, Finding
+from galluspa.emulators.oneshot import PLACE, add_command, add_seconds_option
+from galluspa.emulators.trialruns import MEMORY, RECORDING, SESSION, TrialRunner, other_of
+from galluspa.emulators.trials import Trial
+from galluspa.engine.library import Library
+from galluspa.formats import states
+from galluspa.formats.instructions import CONDITIONS, OPERATIONS
+from galluspa.output.coveragetext import lines
+from galluspa.process.cli import (
+    OK,
+    WRONG,
+    Failed,
+    Output,
+    Parser,
+    Refused,
+    complain,
+    progress,
+    whole_number,
+    with_libraries,
+    write_file,
+)
+from galluspa.process.escapes import for_tap
+from galluspa.process.temporary import temporary_folder
+from galluspa.process.timelimit import Limit
 
 SECONDS, ANSWER_SECONDS, SESSIONS, SEEDS = 60, 10, 1 << 40, 1 << 32
 # What TAP and JUnit have a test of each: the instructions by their names, and the fetch of no word.
@@ -41,7 +54,7 @@ UNANSWERED = "unanswered.json"
 
 @dataclass
 class Result:
-    """What a run of the tool found, in so many seconds: what was done, the differences, and the folder of each."""
+    """What a run of the tool found, and in how many seconds: what was done, the differences, and the folder of each."""
 
     seed: int
     tally: Tally = field(default_factory=Tally)
@@ -78,13 +91,13 @@ def parser() -> Parser:
             differ as small as it can: fewer instructions, inputs, pages and bits. It leaves a folder with the
             session, its recording, its source, and what says which instruction differs, what it should give and
             what it gave. COMMAND is a process that is kept and answers sessions over its standard input and output
-            (docs/debugging.md has the bytes). If {PLACE} is in an argument, it is a command for each session, as
-            for `galluspa bisect`; then {SESSION}, {RECORDING} and {MEMORY} stand for the names of files."""
+            (docs/testing-an-emulator.md has the bytes). If {PLACE} is in an argument, it is a command for each
+            session, as for `galluspa bisect`; then {SESSION}, {RECORDING} and {MEMORY} stand for the names of files."""
         ),
         "galluspa fuzz --seconds 10 -- ./emulator",
         {OK: "both are the same in all sessions", WRONG: "they differ in a session"},
     )
-    options.add_argument("command", metavar="COMMAND", nargs="+", help="after --: the command and its arguments")
+    add_command(options)
     options.add_argument(
         "--seconds", metavar="S", type=whole_number(1, 1 << 30), default=SECONDS, help=f"end after S seconds (default {SECONDS})"
     )
@@ -99,10 +112,10 @@ def parser() -> Parser:
         dest="jobs",
         type=whole_number(1, 256),
         default=os.cpu_count() or 1,
-        help="run N processes side by side (default: as many as there are processors)",
+        help="run N processes in parallel (default: the number of CPUs)",
     )
     options.add_argument(
-        "--most", metavar="N", type=whole_number(1, 1000), default=1, help="end after N different differences (default 1)"
+        "--most", metavar="N", type=whole_number(1, 1000), default=1, help="stop after N distinct differences (default 1)"
     )
     options.add_argument(
         "--ignore",
@@ -112,18 +125,12 @@ def parser() -> Parser:
         default=[],
         help="leave a part out of the comparison, such as timer",
     )
+    add_seconds_option(options, "--answer-seconds", ANSWER_SECONDS, "for a session")
     options.add_argument(
-        "--answer-seconds",
-        metavar="S",
-        type=whole_number(1, 1 << 20),
-        default=ANSWER_SECONDS,
-        help=f"how many seconds COMMAND may take for a session (default {ANSWER_SECONDS})",
-    )
-    options.add_argument(
-        "-o", metavar="FOLDER", dest="folder", type=Path, default=Path("fuzz"), help="where what is found goes (default: fuzz)"
+        "-o", metavar="FOLDER", dest="folder", type=Path, default=Path("fuzz"), help="output folder (default: fuzz)"
     )
     options.add_argument("--tap", action="store_true", help="print TAP, a test for each instruction")
-    options.add_argument("--junit", metavar="FILE", help="write the same as JUnit XML, which CI systems read")
+    options.add_argument("--junit", metavar="FILE", type=Output, help="write these tests as JUnit XML, which CI systems read")
     options.add_library_option()
     return options
 
@@ -143,30 +150,37 @@ def plan_of(asked: Namespace) -> Plan:
     )
 
 
-def try_once(plan: Plan) -> None:
-    """Sees that the other emulator answers at all."""
+def try_once(plan: Plan, kept: Path) -> None:
+    """Checks that the other emulator answers at all. If it does not, the session is kept in a folder."""
+    trial = Trial((0,) * 16, {}, 1)
     with temporary_folder() as folder:
         other = other_of(plan.words, plan.seconds, plan.library, folder)
         try:
-            Arena(plan.library, other, plan.ignored).parting(Trial((0,) * 16, {}, 1))
+            TrialRunner(plan.library, other, plan.ignored).parting(trial)
+        except Refused as refusal:
+            # A command that can't be begun has no session to look at.
+            if isinstance(refusal.__cause__, OSError):
+                raise
+            raise _broken(Broken(trial, "the first session", str(refusal), isinstance(refusal, Failed)), kept) from refusal
         finally:
             other.close()
 
 
 def compare(plan: Plan, asked: Namespace) -> Result:
-    """Compares until the time is over, or enough is found."""
-    result, begun, limit = Result(plan.seed), time.monotonic(), Limit(asked.seconds)
-    for message in compared(plan, limit):
-        if isinstance(message, Tally):
-            result.tally.add(message)
-        elif isinstance(message, Broken):
-            raise _broken(message, asked.folder)
-        elif message and message.key not in {it.key for it, _ in result.found}:
-            result.found.append((message, leave(message, asked.folder)))
-        result.seconds = time.monotonic() - begun
-        progress(f"{result.summary}, {result.tally.trials / max(result.seconds, 0.1):,.0f} sessions a second")
-        if len(result.found) >= asked.most:
-            break
+    """Compares until the time limit, or until enough differences are found."""
+    result, begun = Result(plan.seed), time.monotonic()
+    with closing(compared(plan, Limit(asked.seconds))) as messages:
+        for message in messages:
+            if isinstance(message, Tally):
+                result.tally.add(message)
+            elif isinstance(message, Broken):
+                raise _broken(message, asked.folder)
+            elif message and message.key not in {it.key for it, _ in result.found}:
+                result.found.append((message, leave(message, asked.folder)))
+            result.seconds = time.monotonic() - begun
+            progress(f"{result.summary}, {result.tally.trials / max(result.seconds, 0.1):,.0f} sessions a second")
+            if len(result.found) >= asked.most:
+                break
     progress("")
     return result
 
@@ -197,8 +211,8 @@ def leave(finding: Finding, folder: Path) -> Path:
     for name, content in finding.files().items():
         write_file(own / name, content)
     try:
-        page = with_libraries("galluspa.findingpage").page(finding)
-        write_file(own / "difference.html", "".join(page).encode())
+        page = with_libraries("galluspa.output.pages").templates().get_template("finding.html.j2")
+        write_file(own / "difference.html", page.render(it=finding).encode())
     except Refused as refusal:
         if isinstance(refusal, Failed):
             raise
@@ -252,7 +266,7 @@ def junit(result: Result) -> bytes:
 def main(asked: Namespace) -> int:
     """Compares the other emulator with the machine."""
     plan = plan_of(asked)
-    try_once(plan)
+    try_once(plan, asked.folder)
     result = compare(plan, asked)
     sys.stdout.writelines(f"{line}\n" for line in (tap(result) if asked.tap else text(result)))
     if asked.junit:

@@ -6,16 +6,18 @@ from argparse import Namespace
 from collections.abc import Iterator
 from pathlib import Path
 
-from galluspa import recording
-from galluspa.command import Parser, Refused, read_file, whole_number
-from galluspa.instructions import branches_to, instruction, moved
-from galluspa.mnemonics import source_of
-from galluspa.program import REFUSED, Program
-from galluspa.recording import Checkpoint, Recording
-from galluspa.sessionfaults import parsed
-from galluspa.symbols import Symbols, shown, symbols_for
+from galluspa.assembler.mnemonics import source_of
+from galluspa.engine.program import REFUSED, Program
+from galluspa.formats import recording
+from galluspa.formats.builds import tell_misfit
+from galluspa.formats.instructions import branches_to, instruction, moved
+from galluspa.formats.recording import WORDS, Checkpoint, Recording
+from galluspa.formats.sessionfaults import parsed
+from galluspa.formats.sessions import CHECKPOINTS
+from galluspa.formats.symbolfiles import symbols_for
+from galluspa.formats.symbols import Symbols, shown
+from galluspa.process.cli import Parser, Refused, read_file, whole_number
 
-WORDS = recording.PLACES * recording.WORDS_IN_PAGE
 # The least operand of a move that is taken for an address, and how many names of an address are listed.
 LEAST_NAMED, MOST_LABELS = 0x100, 20
 
@@ -30,7 +32,7 @@ def parser() -> Parser:
     options.add_argument(
         "--at",
         metavar="K",
-        type=whole_number(0, 4096),
+        type=whole_number(0, CHECKPOINTS),
         default=0,
         help="list what checkpoint K of a recording claims (default 0, the initial state)",
     )
@@ -56,7 +58,7 @@ def recording_of(program: Program, path: Path) -> Recording:
     """Returns the recording in a file, or that of the initial state of the session in it."""
     text = read_file(path)
     if text.startswith(b"ORSR"):
-        return recording.lawful(program, str(path), text)
+        return program.decoded(str(path), text)
     answer = program.record(first_state_alone(text))
     if answer.status == REFUSED:
         raise Refused(f"{path}: neither a recording nor a session: {answer.line}")
@@ -64,7 +66,7 @@ def recording_of(program: Program, path: Path) -> Recording:
 
 
 def first_state_alone(text: bytes) -> bytes:
-    """Returns the session of a session's initial state, with nothing to run; a text that is none stays as it is."""
+    """Returns the session of a session's initial state, with nothing to run; returns any other text unchanged."""
     session = parsed(text)
     if not isinstance(session, dict) or not session.keys() >= {"inputs", "checkpoints"}:
         return text
@@ -72,7 +74,7 @@ def first_state_alone(text: bytes) -> bytes:
 
 
 def words_of(read: Recording, checkpoint: Checkpoint, first: int, number: int | None) -> Iterator[tuple[int, int]]:
-    """Words of memory with their numbers: so many, or up to the first that is 0."""
+    """Returns words of memory with their numbers: those of the options, or up to the first that is 0."""
     for at in range(first, min(first + (number or WORDS), WORDS)):
         word = read.word(checkpoint, at)
         if not word and number is None:
@@ -126,9 +128,10 @@ def listed(symbols: Symbols, words: Iterator[tuple[int, int]], asked: Namespace)
 
 
 def main(asked: Namespace) -> int:
-    """Lists what was asked for."""
+    """Lists the words of a session or a recording."""
     symbols = symbols_for(asked.symbols, asked.file)
     read = recording_of(Program.find(asked.program), asked.file)
+    tell_misfit(symbols, read.first_memory)
     if asked.at >= len(read.checkpoints):
         raise Refused(f"{asked.file}: no checkpoint {asked.at}")
     checkpoint = read.checkpoints[asked.at]

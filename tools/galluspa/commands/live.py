@@ -6,11 +6,11 @@ from argparse import Namespace
 from pathlib import Path
 from textwrap import dedent
 
-from galluspa import places
-from galluspa.command import OK, Parser, Refused, read_file, with_libraries, write_file
-from galluspa.escapes import printable
-from galluspa.limits import Limit
-from galluspa.program import ACCEPTED, REFUSED, Program
+from galluspa.engine.program import ACCEPTED, REFUSED, Program
+from galluspa.process import paths
+from galluspa.process.cli import OK, Output, Parser, Refused, read_file, with_libraries, write_file
+from galluspa.process.escapes import printable
+from galluspa.process.timelimit import Limit
 
 
 def parser() -> Parser:
@@ -26,8 +26,8 @@ def parser() -> Parser:
         {OK: "a browser has the page"},
     )
     options.add_argument("file", metavar="FILE", type=Path, nargs="?", help="a recording or a session")
-    options.add_argument("-o", metavar="PAGE", dest="output", type=Path, help="write the page of FILE here, and open it")
-    options.add_limit_option("with FILE, end after so many seconds")
+    options.add_argument("-o", metavar="PAGE", dest="output", type=Output, help="write the page of FILE here, and open it")
+    options.add_limit_option("with FILE, end after this many seconds")
     options.add_program_option()
     return options
 
@@ -43,8 +43,8 @@ def page_of(asked: Namespace) -> Path:
     answer = program.check(text)
     if answer.status == REFUSED:
         raise Refused(f"{asked.file}: {answer.line}")
-    content = "".join(with_libraries("galluspa.livepage").page(printable(asked.file.name), text, answer.line)).encode()
-    page = asked.output or Path(tempfile.mkdtemp(prefix="galluspa-"), f"{asked.file.stem}.html")
+    content = "".join(with_libraries("galluspa.output.live").page(printable(asked.file.name), text, answer.line)).encode()
+    page = Path(asked.output or Path(tempfile.mkdtemp(prefix="galluspa-"), f"{asked.file.stem}.html"))
     write_file(page, content)
     return page.resolve()
 
@@ -53,7 +53,7 @@ def main(asked: Namespace) -> int:
     """Opens the page."""
     if asked.output and not asked.file:
         raise Refused("use -o with FILE")
-    page = page_of(asked) if asked.file else places.page()
+    page = page_of(asked) if asked.file else paths.page()
     if not page.is_file():
         raise Refused(f"{page}: no live page")
     print(printable(str(page)), flush=True)

@@ -5,10 +5,9 @@ from argparse import Namespace
 from pathlib import Path
 from textwrap import dedent
 
-from galluspa import recording
-from galluspa.command import Parser, Refused, read_file, whole_number, write_bytes
-from galluspa.program import Program
-from galluspa.sessions import CHECKPOINTS
+from galluspa.engine.program import Program
+from galluspa.formats.sessions import CHECKPOINTS
+from galluspa.process.cli import Parser, Refused, read_file, whole_number, write_bytes
 
 
 def parser() -> Parser:
@@ -33,8 +32,8 @@ def parser() -> Parser:
 
 
 def main(asked: Namespace) -> int:
-    """Prints the bytes that were asked for."""
-    read = recording.lawful(Program.find(asked.program), str(asked.recording), read_file(asked.recording))
+    """Prints the bytes that a recording claims were sent."""
+    read = Program.find(asked.program).decoded(str(asked.recording), read_file(asked.recording))
     if asked.at is None:
         claims = read.checkpoints
     elif asked.at < len(read.checkpoints):

@@ -1,7 +1,6 @@
 """Prints which procedures of the recorded program the instructions of a run go to, and who calls them.
 
-The library counts how often each word is executed, so instructions and calls are exact. What a procedure takes with
-those that it calls is estimated, by following calls and returns.
+The library counts how often each word is executed, and follows the calls of the run. So all numbers are exact.
 """
 
 import json
@@ -10,15 +9,18 @@ from argparse import Namespace
 from pathlib import Path
 from textwrap import dedent
 
-from galluspa.command import Parser, Refused, progress, read_file, whole_number, with_libraries, write_file
-from galluspa.escapes import printable
-from galluspa.executions import executions_of, run_of
-from galluspa.library import Library
-from galluspa.limits import Limit
-from galluspa.profileformats import as_object, callgrind, difference, folded, text
-from galluspa.profiles import Profile, profile_of
-from galluspa.sessions import COUNTS
-from galluspa.symbols import Symbols, symbols_for
+from galluspa.analysis.calls import add_stack_limit_option
+from galluspa.analysis.profiles import Profile, profile_of
+from galluspa.engine.library import Library
+from galluspa.engine.tracing import Run
+from galluspa.formats.builds import tell_misfit
+from galluspa.formats.sessions import COUNTS
+from galluspa.formats.symbolfiles import symbols_for
+from galluspa.formats.symbols import Symbols
+from galluspa.output.profileformats import as_object, callgrind, difference, folded, text
+from galluspa.process.cli import Output, Parser, Refused, progress, read_file, whole_number, with_libraries, write_file
+from galluspa.process.escapes import printable
+from galluspa.process.timelimit import Limit
 
 
 def parser() -> Parser:
@@ -27,10 +29,10 @@ def parser() -> Parser:
         dedent(
             """\
             Prints the profile of a run: how many instructions each procedure of the recorded program takes, and
-            how often each calls another. These counts are exact. What a procedure takes with all that it
-            calls is estimated: the tool follows calls and returns, and guesses the stack at the first count. The
-            run is that of the machine from the initial state, whatever the recording claims. A symbol file adds
-            names and source lines (docs/symbols.md); without it, procedures are known by their addresses."""
+            how often each calls another; and with callees, the instructions that are done while a call of it has
+            not returned. All numbers are exact. The run is that of the machine from the initial state, whatever
+            the recording claims. A symbol file adds names and source lines (docs/symbols.md); without it,
+            procedures are known by their addresses."""
         ),
         "galluspa profile examples/face.orsr --from 8000000 --to 12000000",
     )
@@ -47,14 +49,20 @@ def parser() -> Parser:
         type=Path,
         help="print what differs from the same counts of another recording, procedure by procedure",
     )
+    add_stack_limit_option(options)
     options.add_symbols_option()
     options.add_argument("--json", action="store_true", help="print the profile as JSON")
     options.add_argument(
-        "--callgrind", metavar="FILE", help="write the profile in the format of callgrind, for callgrind_annotate and KCachegrind"
+        "--callgrind",
+        metavar="FILE",
+        type=Output,
+        help="write the profile in the format of callgrind, for callgrind_annotate and KCachegrind",
     )
-    options.add_argument("--folded", metavar="FILE", help="write the stacks as lines, for other tools that draw flame graphs")
-    options.add_argument("--page", metavar="FILE", help="write the profile as one page (HTML) with a flame graph")
-    options.add_limit_option("end after so many seconds")
+    options.add_argument(
+        "--folded", metavar="FILE", type=Output, help="write the stacks as lines, for other tools that draw flame graphs"
+    )
+    options.add_argument("--page", metavar="FILE", type=Output, help="write the profile as one page (HTML) with a flame graph")
+    options.add_limit_option("end after this many seconds")
     options.add_library_option()
     return options
 
@@ -62,9 +70,10 @@ def parser() -> Parser:
 def profiled(library: Library, path: Path, asked: Namespace, symbols: Symbols) -> Profile:
     """Returns the profile of a recording."""
     try:
-        run = run_of(library, read_file(path))
+        run = Run.begun(library, read_file(path))
     except Refused as refusal:
         raise type(refusal)(f"{path}: {str(refusal).removeprefix(f'{path}: ')}") from refusal
+    tell_misfit(symbols, run.first_memory)
     last = run.counts[-1]
     to = last if asked.to is None else asked.to
     if asked.first > last:
@@ -75,17 +84,16 @@ def profiled(library: Library, path: Path, asked: Namespace, symbols: Symbols) -
     def heard(count: int) -> None:
         progress(f"at {count:,} of {to:,}")
 
-    seen = executions_of(run, asked.first, to, heard)
-    if symbols and not any(symbols.text(4 * at) for at in seen.visits):
+    profile = profile_of(run, asked.first, to, symbols, asked.stack_limit, heard)
+    if symbols and not any(symbols.text(4 * at) for at in profile.seen.visits):
         raise Refused(f"{symbols.origin} names nothing that is executed: are these the names of another program?")
-    profile = profile_of(run, seen, asked.first, to, symbols, heard)
     progress("")
     return profile
 
 
 def main(asked: Namespace) -> int:
-    """Prints the profile of a recording, and writes the files that were asked for."""
-    page = with_libraries("galluspa.profilepage").page if asked.page else None
+    """Prints the profile of a recording, and writes the files of the options."""
+    page = with_libraries("galluspa.output.profilepage").page if asked.page else None
     if asked.against and asked.json:
         raise Refused("use --against or --json")
     library = Library.find(asked.library, Limit(asked.limit))

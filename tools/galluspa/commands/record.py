@@ -2,13 +2,13 @@
 
 from argparse import Namespace
 
-from galluspa import answers
-from galluspa.command import OK, REFUSED, Parser
+from galluspa.engine import programcommands
+from galluspa.process.cli import OK, REFUSED, Parser
 
 
 def parser() -> Parser:
     """Returns the command line of this tool."""
-    return answers.parser(
+    return programcommands.parser(
         "Runs a session (JSON) on the machine, and prints its recording. Lines on standard error explain a refusal.",
         "galluspa record examples/hello.json -o hello.orsr",
         "SESSION",
@@ -18,4 +18,4 @@ def parser() -> Parser:
 
 def main(asked: Namespace) -> int:
     """Makes the recording."""
-    return answers.main(asked, "record")
+    return programcommands.main(asked, "record")

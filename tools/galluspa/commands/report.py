@@ -11,7 +11,12 @@ from argparse import Namespace
 from dataclasses import replace
 from pathlib import Path
 
-from galluspa.command import (
+from galluspa.engine.program import Program
+from galluspa.formats.builds import tell_misfit
+from galluspa.formats.notes import Note
+from galluspa.formats.sessions import COUNTS
+from galluspa.formats.symbolfiles import symbols_for
+from galluspa.process.cli import (
     FAILED,
     OK,
     REFUSED,
@@ -25,11 +30,7 @@ from galluspa.command import (
     whole_number,
     with_libraries,
 )
-from galluspa.limits import Limit
-from galluspa.notes import Note
-from galluspa.program import Program
-from galluspa.sessions import COUNTS
-from galluspa.symbols import symbols_for
+from galluspa.process.timelimit import Limit
 
 
 def parser() -> Parser:
@@ -51,7 +52,7 @@ def parser() -> Parser:
     options.add_argument(
         "--live", action="store_true", help="make a page that can check the recording again, and run on from any checkpoint"
     )
-    options.add_argument("--title", metavar="TEXT", help="begin with this headline, and have the verdict be a line below it")
+    options.add_argument("--title", metavar="TEXT", help="begin with this headline; the verdict is a line below it")
     options.add_argument(
         "--note",
         metavar="FILE",
@@ -63,7 +64,7 @@ def parser() -> Parser:
         metavar="N",
         type=whole_number(0, COUNTS),
         help="begin with the machine at count N: its screen, registers, next instruction and, with "
-        "names, who probably called; it needs the library",
+        "names, who called; it needs the library",
     )
     options.add_argument(
         "--source",
@@ -74,21 +75,23 @@ def parser() -> Parser:
         help="with --live, put this source into the page, which shows its lines beside the instructions; once for each file",
     )
     options.add_symbols_option()
-    options.add_limit_option("end after so many seconds, with what was found by then")
+    options.add_limit_option("end after this many seconds, with what was found by then")
     options.add_program_option()
     options.add_library_option()
     return options
 
 
 def main(asked: Namespace) -> int:
-    """Prints the report that was asked for; the status is that of the verdict line."""
+    """Prints the report of a recording; the status is that of the verdict line."""
     if asked.text and asked.live:
         raise Refused("use --text or --live: a text cannot check a recording again")
     if asked.source and not asked.live:
         raise Refused("use --source with --live: only the live page shows sources")
     program, text = Program.find(asked.program, Limit(asked.limit)), read_file(asked.recording)
     symbols, note = symbols_for(asked.symbols, asked.recording), Note.of(asked.title, asked.note)
-    report = with_libraries("galluspa.page").Report.of(program, asked.recording.name, text, asked.library, symbols)
+    report = with_libraries("galluspa.output.report").Report.of(program, asked.recording.name, text, asked.library, symbols)
+    if report.recording:
+        tell_misfit(symbols, report.recording.first_memory)
     report = replace(report, note=note, at=asked.at, sources=asked.source)
     if asked.text:
         sys.stdout.writelines(f"{line}\n" for line in report.plain())

@@ -9,29 +9,26 @@ import sys
 import time
 from argparse import Namespace
 from collections.abc import Sequence
-from dataclasses import replace
 from pathlib import Path
 from textwrap import dedent
 
-from galluspa import approvals, stored
-from galluspa.approvals import Approved, Differences
-from galluspa.children import in_parallel
-from galluspa.command import OK, WRONG, Parser, Refused, whole_number, with_libraries, write_file
-from galluspa.escapes import printable
-from galluspa.library import Library
-from galluspa.limits import Limit, TimeIsUp
-from galluspa.outcomes import add_jobs_option, add_output_options, reported
-from galluspa.program import Program
-from galluspa.reruns import Rerun, rerun
-from galluspa.runs import Change
-from galluspa.scripts import STILL
-from galluspa.sessions import COUNTS, MEMORY_BYTES
-from galluspa.stored import APPROVED, AS_APPROVED, Shelf, Wanted
-from galluspa.suites import Case, Outcome
-from galluspa.symbols import symbols_for
-
-# So many differences are in an answer, and so many characters of each.
-MOST_TOLD, LONGEST = 8, 300
+from galluspa.engine.library import Library
+from galluspa.engine.program import Program
+from galluspa.formats.recording import MEMORY_BYTES
+from galluspa.formats.scripts import STILL
+from galluspa.formats.sessions import COUNTS
+from galluspa.formats.symbolfiles import symbols_for
+from galluspa.process.children import in_parallel
+from galluspa.process.cli import OK, WRONG, Parser, Refused, whole_number, with_libraries, write_file
+from galluspa.process.escapes import printable
+from galluspa.process.timelimit import TimeIsUp
+from galluspa.suites import approvals, storedsessions
+from galluspa.suites.cases import Case, Outcome
+from galluspa.suites.judging import LONGEST, Judge, answered
+from galluspa.suites.outcomes import add_jobs_option, add_output_options, reported
+from galluspa.suites.reruns import Rerun
+from galluspa.suites.runs import Change
+from galluspa.suites.storedsessions import APPROVED, AS_APPROVED, Shelf, Wanted
 
 
 def parser() -> Parser:
@@ -66,7 +63,14 @@ def parser() -> Parser:
         help="a number of the initial state: R0 to R15, H, PC (in words), flags, rate, phase",
     )
     options.add_argument(
-        "--approve", action="store_true", help="write what is seen as approved, in place of what was approved before"
+        "--approve", action="store_true", help="approve the results of this run, in place of those approved before"
+    )
+    options.add_argument(
+        "--before",
+        metavar="FILE",
+        dest="earlier",
+        type=Path,
+        help="the image of the version that was approved, as --image names one: say what that version did where this one differs",
     )
     options.add_argument(
         "--still",
@@ -89,7 +93,7 @@ def parser() -> Parser:
         "--recordings", metavar="INTO", type=Path, help="write the recording of each run into this folder, with the counts found"
     )
     add_jobs_option(options, "run")
-    options.add_limit_option("run each session for at most so many seconds; after them it is not as approved")
+    options.add_limit_option("end the run of a session after this many seconds; it is then not as approved")
     add_output_options(options, "each session with the screens that were approved, those of now, and what differs")
     options.add_symbols_option()
     options.add_program_option()
@@ -100,59 +104,39 @@ def parser() -> Parser:
 class Reruns:
     """Runs stored sessions, approves or compares them, and keeps what a page shows of them."""
 
-    def __init__(self, asked: Namespace, shelf: Shelf, library: Library) -> None:
+    def __init__(self, asked: Namespace, judge: Judge) -> None:
         self._asked = asked
-        self._shelf = shelf
-        self._library = library
+        self._judge = judge
         self.shown: dict[str, object] = {}
 
     def outcome(self, case: Case) -> Outcome:
         """Returns how the run of a stored session compares with what was approved."""
         start = time.monotonic()
+        why: Sequence[str] = ()
         try:
-            answered, is_error = self._answered(case), False
-        except (Refused, TimeIsUp) as why:
-            answered, is_error = printable(str(why))[:LONGEST], True
-        return Outcome(case, answered, time.monotonic() - start, is_error)
+            (answer, why), is_error = self._answered(case), False
+        except (Refused, TimeIsUp) as refusal:
+            answer, is_error = printable(str(refusal))[:LONGEST], True
+        return Outcome(case, answer, time.monotonic() - start, is_error, why)
 
-    def _answered(self, case: Case) -> str:
-        """Returns what is answered of a run."""
-        limit = Limit(self._asked.limit)
-        program = replace(self._shelf.program, limit=limit)
-        start, script, symbols = self._shelf.taken(program, case)
-        ran = rerun(replace(self._library, limit=limit), program, start, script, symbols)
-        if self._asked.recordings:
-            self._write(case, ran)
-        folder = approvals.folder_of(case.path)
+    def _answered(self, case: Case) -> tuple[str, Sequence[str]]:
+        """Returns what is answered of a run, and why it differs."""
         if self._asked.approve:
-            return self._approved(folder, ran)
-        approved = approvals.read(folder, self._shelf.top)
-        found = approvals.differences(approved, ran) if approved else Differences()
+            ran = self._judge.run(case)
+            self._write(case, ran)
+            return self._judge.approve(case, ran), ()
+        judged = self._judge.judged(case)
+        self._write(case, judged.ran)
         if self._asked.page:
-            self.shown[case.name] = with_libraries("galluspa.rerunpage").Shown.of(ran, approved, found)
-        if not approved:
-            return ran.never or "not approved yet: --approve writes what is seen"
-        return told(found) if found.lines else f"{AS_APPROVED} ({size(ran)})"
-
-    def _approved(self, folder: Path, ran: Rerun) -> str:
-        """Writes what is seen as approved, also over golden files that are none, and says what became another."""
-        if ran.never:
-            raise Refused(f"not approved: {ran.never}")
-        before: Approved | None = None
-        found = Differences()
-        try:
-            before = approvals.read(folder, self._shelf.top)
-            found = approvals.differences(before, ran) if before else found
-        except Refused as why:
-            found = Differences([f"before, {why}"])
-        if before and not found.lines:
-            return f"{APPROVED} before ({size(ran)})"
-        approvals.write(folder, self._shelf.top, ran, before)
-        return f"{APPROVED} now ({size(ran)})" + (f": {told(found)}" if found.lines else "")
+            self.shown[case.name] = with_libraries("galluspa.output.rerunpage").Shown.of(judged)
+        return answered(judged), judged.why
 
     def _write(self, case: Case, ran: Rerun) -> None:
-        """Writes the recording of a run, by the name of its session."""
-        path = self._asked.recordings / case.path.relative_to(self._shelf.folder).with_name(f"{approvals.stem_of(case.path)}.orsr")
+        """Writes the recording of a run, by the name of its session, with --recordings."""
+        if not self._asked.recordings:
+            return
+        folder = self._judge.shelf.folder
+        path = self._asked.recordings / case.path.relative_to(folder).with_name(f"{approvals.stem_of(case.path)}.orsr")
         try:
             path.parent.mkdir(parents=True, exist_ok=True)
         except OSError as error:
@@ -160,44 +144,32 @@ class Reruns:
         write_file(path, ran.text)
 
 
-def told(found: Differences) -> str:
-    """Returns differences in a line."""
-    lines = [line[:LONGEST] for line in found.lines[:MOST_TOLD]]
-    more = len(found.lines) - len(lines)
-    return "; ".join([*lines, *([f"and {more} more"] if more else [])])
-
-
-def size(ran: Rerun) -> str:
-    """Returns how much there is to see of a run."""
-    looks, sent = len(ran.looks), len(ran.sent)
-    return f"{looks} {'look' if looks == 1 else 'looks'}, {sent:,} {'byte' if sent == 1 else 'bytes'} sent"
-
-
-def shelf_of(asked: Namespace, program: Program) -> Shelf:
-    """Returns the stored sessions that were asked for, with the image that they run on."""
+def shelf_of(asked: Namespace, program: Program, named: Path | None, symbols: Path | None) -> Shelf:
+    """Returns the stored sessions of the command line, with the image that they run on, if one is named."""
     if not asked.image and (asked.at is not None or asked.set):
         raise Refused("use --at and --set with --image")
-    image = stored.image_of(program, asked.image, asked.at, asked.set) if asked.image else None
-    symbols = symbols_for(asked.symbols, *filter(None, [asked.image]))
+    image = storedsessions.image_of(program, named, asked.at, asked.set) if named else None
+    names = symbols_for(symbols, *filter(None, [named]))
     folder = asked.folder if asked.folder.is_dir() else asked.folder.parent
-    return Shelf(program, folder, image, symbols, Wanted(asked.still, asked.polled, asked.checkpoints))
+    return Shelf(program, folder, image, names, Wanted(asked.still, asked.polled, asked.checkpoints))
 
 
 def main(asked: Namespace) -> int:
-    """Runs the stored sessions that were asked for; the status says whether all is as approved."""
+    """Runs stored sessions; the status says whether all is as approved."""
     if asked.page:
-        with_libraries("galluspa.rerunpage")
+        with_libraries("galluspa.output.rerunpage")
     program = Program.find(asked.program)
-    cases, others = stored.cases_of(asked.folder, APPROVED if asked.approve else AS_APPROVED)
-    shelf = shelf_of(asked, program)
+    cases, others = storedsessions.cases_of(asked.folder, APPROVED if asked.approve else AS_APPROVED)
+    shelf = shelf_of(asked, program, asked.image, asked.symbols)
     if asked.script:
         return print_script(program, shelf, cases)
     shelf.find_names(cases)
-    reruns = Reruns(asked, shelf, Library.find(asked.library))
+    before = shelf_of(asked, program, asked.earlier, None) if asked.earlier else None
+    reruns = Reruns(asked, Judge(shelf, Library.find(asked.library), asked.limit, before))
 
     def page(outcomes: list[Outcome], changes: list[Change] | None) -> bytes:
         name = printable(asked.folder.resolve().name)
-        return "".join(with_libraries("galluspa.rerunpage").page(name, outcomes, changes, reruns.shown)).encode()
+        return "".join(with_libraries("galluspa.output.rerunpage").page(name, outcomes, changes, reruns.shown)).encode()
 
     for name in others:
         print(f"# {name}: no session")

@@ -2,13 +2,13 @@
 
 from argparse import Namespace
 
-from galluspa import answers
-from galluspa.command import OK, REFUSED, Parser
+from galluspa.engine import programcommands
+from galluspa.process.cli import OK, REFUSED, Parser
 
 
 def parser() -> Parser:
     """Returns the command line of this tool."""
-    options = answers.parser(
+    options = programcommands.parser(
         "Prints the screen that a checkpoint claims, as a binary PBM. It does not test whether the claim is true:\n"
         "`galluspa check` does. `galluspa film --at K` makes a PNG of the screen.",
         "galluspa screen --at 4 examples/face.orsr -o face.pbm",
@@ -21,4 +21,4 @@ def parser() -> Parser:
 
 def main(asked: Namespace) -> int:
     """Draws the screen."""
-    return answers.main(asked, "screen", ["--at", asked.at])
+    return programcommands.main(asked, "screen", ["--at", asked.at])

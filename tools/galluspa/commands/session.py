@@ -6,12 +6,17 @@ from collections.abc import Sequence
 from pathlib import Path
 from textwrap import dedent
 
-from galluspa import endings, recording, sessions
-from galluspa.command import Parser, Refused, complain, number, read_file, whole_number
-from galluspa.oddities import oddities
-from galluspa.program import Program
-from galluspa.sessions import CHECKPOINTS, COUNTS, MEMORY_BYTES, Session
-from galluspa.symbols import Symbols, address_of, symbols_for
+from galluspa.analysis import endings
+from galluspa.engine.program import Program
+from galluspa.formats import sessions
+from galluspa.formats.builds import tell_misfit
+from galluspa.formats.imagewarnings import oddities
+from galluspa.formats.language import LOOPS, STOPS
+from galluspa.formats.recording import MEMORY_BYTES
+from galluspa.formats.sessions import CHECKPOINTS, COUNTS, LONGEST_RUN, Session
+from galluspa.formats.symbolfiles import symbols_for
+from galluspa.formats.symbols import Symbols, address_of
+from galluspa.process.cli import Parser, Refused, complain, number, read_file, whole_number
 
 
 def parser() -> Parser:
@@ -54,14 +59,14 @@ def parser() -> Parser:
         "--until-stops",
         action="store_const",
         dest="end",
-        const=endings.STOPS,
+        const=STOPS,
         help="make the last checkpoint at the first count at which the machine is stopped",
     )
     ends.add_argument(
         "--until-loops",
         action="store_const",
         dest="end",
-        const=endings.LOOPS,
+        const=LOOPS,
         help="make the last checkpoint where the machine, after all inputs, enters a loop that it "
         f"never leaves, of at most {endings.LONGEST_LOOP:,} instructions",
     )
@@ -69,19 +74,19 @@ def parser() -> Parser:
         "--most",
         metavar="N",
         type=whole_number(1, COUNTS),
-        default=endings.MOST,
-        help=f"look for the stop or the loop up to count N (default {endings.MOST:,})",
+        default=LONGEST_RUN,
+        help=f"look for the stop or the loop up to count N (default {LONGEST_RUN:,})",
     )
     options.add_argument("--of", metavar="RECORDING", type=Path, help="take initial state, inputs and counts from a recording")
     options.add_symbols_option()
     options.add_program_option()
     options.add_library_option()
-    options.add_limit_option("look for the end of the run for so many seconds")
+    options.add_limit_option("look for the end of the run for this many seconds")
     return options
 
 
 def check_counts(listed: str | None, every: int | None, until: int | None, end: str | None) -> None:
-    """Refuses arguments that do not say which checkpoints are wanted."""
+    """Refuses arguments that do not define the checkpoints."""
     if end and (listed is not None or until is not None):
         raise Refused(f"--until-{end} finds the last checkpoint: leave out --checkpoints and --until")
     if not end and ((listed is None) == (every is None) or (every is None) != (until is None)):
@@ -91,7 +96,7 @@ def check_counts(listed: str | None, every: int | None, until: int | None, end: 
 
 
 def counts_of(listed: str | None, every: int | None, until: int | None, end: int | None) -> list[int]:
-    """Returns the counts of checkpoints: as listed, or every so many, or up to the end of the run."""
+    """Returns the counts of checkpoints: as listed, or at regular distances, or up to the end of the run."""
     counts: Sequence[int]
     if listed is not None:
         counts = _listed(listed)
@@ -137,18 +142,19 @@ def end_of(asked: Namespace, session: Session) -> int:
 
 
 def main(asked: Namespace) -> int:
-    """Prints the session that was asked for."""
+    """Prints a session, made of an image or of a recording."""
     if asked.of:
         if asked.memory or asked.set or asked.inputs or asked.checkpoints or asked.every or asked.until or asked.at or asked.end:
             raise Refused("--of takes everything from the recording: leave out the other options")
         text = read_file(asked.of)
-        read = recording.lawful(Program.find(asked.program), str(asked.of), text)
+        read = Program.find(asked.program).decoded(str(asked.of), text)
         sys.stdout.write(sessions.of_recording(str(asked.of), read).text())
         return 0
     if not asked.memory:
         raise Refused("give --memory IMAGE or --of RECORDING (see galluspa session --help)")
     session = Session(memory=sessions.image_at(str(asked.memory), read_file(asked.memory, MEMORY_BYTES + 1), asked.at))
     symbols = symbols_for(asked.symbols, asked.memory)
+    tell_misfit(symbols, lambda: session.memory.ljust(MEMORY_BYTES, b"\0"))
     for assignment in asked.set:
         sessions.set_register(session, with_number(assignment, symbols))
     sessions.check_phase(session)

@@ -13,18 +13,18 @@ from dataclasses import dataclass
 from pathlib import Path
 from textwrap import dedent
 
-from galluspa import children, recording, sessions
-from galluspa.arena import RECORDING, SESSION, files_of, replaced
-from galluspa.command import OK, Parser, Refused, complain, progress, whole_number, write_file
-from galluspa.emulators import LONGEST, PLACE
-from galluspa.initial import recording_of
-from galluspa.library import Library
-from galluspa.limits import Limit, TimeIsUp
-from galluspa.program import Program
-from galluspa.reduction import Reducer
-from galluspa.sessions import COUNTS
-from galluspa.temporary import temporary_folder
-from galluspa.trials import Trial
+from galluspa.emulators.oneshot import PLACE, add_command, add_seconds_option, ended, require
+from galluspa.emulators.reduction import Reducer
+from galluspa.emulators.trialruns import RECORDING, SESSION, files_of, replaced
+from galluspa.emulators.trials import Trial
+from galluspa.engine.initial import recording_of
+from galluspa.engine.library import Library
+from galluspa.engine.program import Program
+from galluspa.formats import recording, sessions
+from galluspa.formats.sessions import COUNTS
+from galluspa.process.cli import OK, Output, Parser, Refused, complain, progress, whole_number, write_file
+from galluspa.process.temporary import temporary_folder
+from galluspa.process.timelimit import Limit, TimeIsUp
 
 SECONDS, ANSWER_SECONDS = 600, 60
 RIGHT, LAST_WRONG, UNKNOWN = 0, 124, 125
@@ -47,7 +47,6 @@ class Question:
         """Returns whether the command says that a trial is still wrong."""
         if not trial.count:
             return False
-        self.limit.left()
         self.asked += 1
         status = self._status(trial)
         if status == RIGHT or status == UNKNOWN:
@@ -63,16 +62,13 @@ class Question:
         files = {**files_of(self.words, trial, self.library, self.folder), PLACE: str(trial.count)}
         words = [replaced(word, files) for word in self.words]
         try:
-            return children.output_of(words, limit=Limit(self.seconds), most=LONGEST).status
-        except OSError as error:
-            raise Refused(f"{words[0]}: {error.strerror}") from error
+            return ended(words, Limit(min(self.seconds, self.limit.left()))).status
         except TimeIsUp as over:
+            self.limit.left()
             # A session that is tried may well run on for ever; the first one may not.
             if self.asked > 1:
                 return UNKNOWN
             raise Refused(f"{shlex.join(words)}: {over}") from over
-        except children.TooLong as error:
-            raise Refused(f"{shlex.join(words)}: prints more than {LONGEST:,} bytes") from error
 
 
 def size_of(trial: Trial) -> str:
@@ -96,35 +92,26 @@ def parser() -> Parser:
         {OK: "the smallest session is printed"},
     )
     options.add_argument("session", metavar="SESSION", type=Path, help="a session, or a recording")
-    options.add_argument("command", metavar="COMMAND", nargs="+", help="after --: the command and its arguments")
-    options.add_argument("-o", metavar="FILE", dest="output", help="write the session into a file")
+    add_command(options)
+    options.add_argument("-o", metavar="FILE", dest="output", type=Output, help="write the session into a file")
     options.add_argument(
         "--to", metavar="N", type=whole_number(1, COUNTS), help="the last count (default: that of the last checkpoint)"
     )
-    options.add_argument(
-        "--answer-seconds",
-        metavar="S",
-        type=whole_number(1, 1 << 20),
-        default=ANSWER_SECONDS,
-        help=f"how many seconds COMMAND may take each time (default {ANSWER_SECONDS})",
-    )
-    options.add_limit_option("end after so many seconds with the smallest session until then")
+    add_seconds_option(options, "--answer-seconds", ANSWER_SECONDS)
+    options.add_limit_option("end after this many seconds with the smallest session until then")
     options.add_program_option()
     options.add_library_option()
     return options
 
 
-def trial_of(asked: Namespace) -> Trial:
+def trial_of(asked: Namespace, limit: Limit) -> Trial:
     """Returns the trial of the file that the arguments name."""
-    text, last = recording_of(Program.find(asked.program), asked.session)
-    count = asked.to or last
-    if not count:
-        raise Refused(f"{asked.session}: no checkpoint: give --to N")
+    text, count = recording_of(Program.find(asked.program, limit), asked.session, asked.to)
     return Trial.of(sessions.of_recording(str(asked.session), recording.read(text)), count)
 
 
 def shrunk(question: Question, trial: Trial) -> str:
-    """Makes a trial small, and says why it is not done, if the time is over first."""
+    """Makes a trial small; if the time limit comes first, says so."""
     reducer = Reducer(question.library, question.is_wrong)
     try:
         reducer.smallest(reducer.earlier_end(trial))
@@ -135,11 +122,11 @@ def shrunk(question: Question, trial: Trial) -> str:
 
 def main(asked: Namespace) -> int:
     """Prints the smallest session that is still wrong."""
-    if not any(name in word for word in asked.command for name in (SESSION, RECORDING)):
-        raise Refused(f"put {SESSION} or {RECORDING} into an argument of COMMAND")
-    trial, library = trial_of(asked), Library.find(asked.library)
+    require(asked.command, SESSION, RECORDING)
+    limit = Limit(asked.limit)
+    trial, library = trial_of(asked, limit), Library.find(asked.library, limit)
     with temporary_folder() as folder:
-        question = Question(asked.command, asked.answer_seconds, library, folder, Limit(asked.limit), trial)
+        question = Question(asked.command, asked.answer_seconds, library, folder, limit, trial)
         if not question.is_wrong(trial):
             raise Refused(f"{asked.session}: COMMAND does not say that it is wrong, by a status from 1 to {LAST_WRONG}")
         over = shrunk(question, trial)

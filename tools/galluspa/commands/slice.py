@@ -1,14 +1,14 @@
-"""Cuts the stretch between two checkpoints out of a recording, as a recording of its own, to share a long one among
-machines."""
+"""Cuts the segments between two checkpoints out of a recording, as a recording of its own, to report what happens there."""
 
 from argparse import Namespace
 from pathlib import Path
 from textwrap import dedent
 
-from galluspa import recording
-from galluspa.command import Parser, Refused, read_file, whole_number, write_bytes
-from galluspa.program import Program
-from galluspa.stretches import stretch
+from galluspa.engine.program import Program
+from galluspa.formats import recording
+from galluspa.formats.sessions import CHECKPOINTS
+from galluspa.formats.slices import slice_of
+from galluspa.process.cli import Parser, Refused, read_file, whole_number, write_bytes
 
 
 def parser() -> Parser:
@@ -16,9 +16,8 @@ def parser() -> Parser:
     options = Parser(
         dedent(
             """\
-            Prints the stretch between two checkpoints of a recording as a recording of its own: what checkpoint
-            I claims is its initial state, counts begin at 0 again, and inputs move with them. `galluspa join`
-            makes the line of the whole from theirs."""
+            Prints the segments between two checkpoints of a recording as a recording of its own: what checkpoint
+            I claims is its initial state, counts begin at 0 again, and inputs move with them."""
         ),
         "galluspa slice examples/face.orsr --from 2 --to 4 > 2-4.orsr",
     )
@@ -27,7 +26,7 @@ def parser() -> Parser:
         "--from",
         metavar="I",
         dest="first",
-        type=whole_number(0, 4095),
+        type=whole_number(0, CHECKPOINTS - 1),
         required=True,
         help="the number of the checkpoint where the slice begins",
     )
@@ -35,7 +34,7 @@ def parser() -> Parser:
         "--to",
         metavar="J",
         dest="last",
-        type=whole_number(1, 4096),
+        type=whole_number(1, CHECKPOINTS),
         required=True,
         help="the number of the last checkpoint of the slice",
     )
@@ -44,11 +43,11 @@ def parser() -> Parser:
 
 
 def main(asked: Namespace) -> int:
-    """Prints the stretch that was asked for."""
-    read = recording.lawful(Program.find(asked.program), str(asked.recording), read_file(asked.recording))
+    """Prints the slice."""
+    read = Program.find(asked.program).decoded(str(asked.recording), read_file(asked.recording))
     if asked.first >= asked.last:
         raise Refused(f"--to {asked.last} must come after --from {asked.first}")
     if asked.last >= len(read.checkpoints):
         raise Refused(f"{asked.recording}: no checkpoint {asked.last}")
-    write_bytes(recording.write(stretch(read, asked.first, asked.last)))
+    write_bytes(recording.write(slice_of(read, asked.first, asked.last)))
     return 0

@@ -10,17 +10,18 @@ from collections.abc import Iterator
 from pathlib import Path
 from textwrap import dedent
 
-from galluspa import inspection
-from galluspa.addresses import MEMORY_WORDS, address_in_memory, words_asked
-from galluspa.command import OK, Failed, Parser, Refused, whole_number, write_file
-from galluspa.inspection import STACK_WORDS
-from galluspa.library import Library, Machine
-from galluspa.limits import Limit, TimeIsUp
-from galluspa.naming import placed_lines
-from galluspa.program import Program
-from galluspa.sessions import COUNTS
-from galluspa.symbols import Symbols, symbols_for
-from galluspa.tracing import Run
+from galluspa.analysis import inspection
+from galluspa.analysis.addresses import MEMORY_WORDS, address_in_memory, moment_of, words_asked
+from galluspa.analysis.calls import Calls, add_stack_limit_option
+from galluspa.analysis.inspection import STACK_WORDS
+from galluspa.analysis.naming import placed_lines
+from galluspa.engine.machine import Machine
+from galluspa.engine.opening import opened
+from galluspa.engine.tracing import Run
+from galluspa.formats.sessions import COUNTS
+from galluspa.formats.symbols import Symbols
+from galluspa.process.cli import OK, Failed, Output, Parser, whole_number, write_file
+from galluspa.process.timelimit import Limit, TimeIsUp
 
 
 def parser() -> Parser:
@@ -49,20 +50,23 @@ def parser() -> Parser:
     options.add_argument(
         "--stack",
         action="store_true",
-        help=f"print the {STACK_WORDS} words from R14 on, too, with those that are probably ways "
-        "back, and who probably called: a guess, since the machine has no frames",
+        help=f"print the calls that have not returned, too, and the {STACK_WORDS} words from R14 on, with those that are their "
+        "return addresses",
     )
-    options.add_argument("--screen", metavar="FILE", help="draw the screen into a file: a PNG, or a PBM if its name ends with .pbm")
+    add_stack_limit_option(options)
+    options.add_argument(
+        "--screen", metavar="FILE", type=Output, help="draw the screen into a file: a PNG, or a PBM if its name ends with .pbm"
+    )
     options.add_argument("--json", action="store_true", help="print one JSON object")
     options.add_symbols_option()
-    options.add_limit_option("end after so many seconds")
+    options.add_limit_option("end after this many seconds")
     options.add_program_option()
     options.add_library_option()
     return options
 
 
 def shown(run: Run, machine: Machine, asked: Namespace, symbols: Symbols) -> Iterator[str]:
-    """Yields the lines that show a machine, and what was asked for of its memory."""
+    """Yields the lines that show a machine, and the memory that the options name."""
     state = machine.seen()
     yield inspection.status_line(state)
     if not state.stop:
@@ -73,39 +77,35 @@ def shown(run: Run, machine: Machine, asked: Namespace, symbols: Symbols) -> Ite
     for text in asked.memory:
         address, words = words_asked(text)
         yield ""
-        yield from inspection.memory_lines(machine, address_in_memory(address, state, symbols), words, symbols)
+        yield from inspection.memory_lines(machine, address_in_memory(address, moment_of(machine), symbols), words, symbols)
     if asked.stack:
         yield ""
-        callers = inspection.callers_in(machine, symbols)
-        yield inspection.callers_line(machine, callers)
-        yield from inspection.stack_lines(machine, STACK_WORDS, symbols, callers)
+        calls = Calls(run, asked.stack_limit).at(machine.count)
+        yield f"stack: {inspection.entries_of(machine, symbols).line(state.pc, calls)}"
+        yield from inspection.stack_lines(machine, STACK_WORDS, symbols, calls)
 
 
-def as_object(machine: Machine, asked: Namespace, symbols: Symbols) -> dict[str, object]:
+def as_object(run: Run, machine: Machine, asked: Namespace, symbols: Symbols) -> dict[str, object]:
     """Returns the same for machines."""
     found, state = inspection.as_object(machine, symbols), machine.seen()
     if asked.memory:
-        places = [(address_in_memory(address, state, symbols), words) for address, words in map(words_asked, asked.memory)]
+        moment = moment_of(machine)
+        places = [(address_in_memory(address, moment, symbols), words) for address, words in map(words_asked, asked.memory)]
         found["memory"] = [inspection.memory_objects(machine, address, words, symbols) for address, words in places]
     if asked.stack:
         found["stack"] = inspection.memory_objects(machine, state.registers[14], STACK_WORDS, symbols)
-        found["probably"] = inspection.callers_in(machine, symbols).of(state)
+        calls = Calls(run, asked.stack_limit).at(machine.count)
+        found["calls"] = inspection.call_objects(calls, inspection.entries_of(machine, symbols))
     return found
 
 
 def main(asked: Namespace) -> int:
-    """Prints the machine that was asked for."""
-    symbols = symbols_for(asked.symbols, asked.recording)
-    limit = Limit(asked.limit)
-    library, program = Library.find(asked.library, limit), Program.find(asked.program, limit)
-    run = Run.checked(library, program, asked.recording)
-    last = run.counts[-1]
-    at = last if asked.at is None else asked.at
-    if at > last:
-        raise Refused(f"--at {at} is after the last checkpoint, which is at {last}")
+    """Prints the machine at a count."""
+    it = opened(asked, Limit(asked.limit))
+    run, symbols, program, at = it.run, it.symbols, it.program, it.count(asked.at)
     try:
         machine = run.machine(at)
-        lines = [json.dumps(as_object(machine, asked, symbols))] if asked.json else list(shown(run, machine, asked, symbols))
+        lines = [json.dumps(as_object(run, machine, asked, symbols))] if asked.json else list(shown(run, machine, asked, symbols))
         if asked.screen:
             write_file(asked.screen, inspection.picture_of(inspection.screen_of(machine, program), asked.screen))
     except TimeIsUp as over:

@@ -5,17 +5,17 @@ from argparse import Namespace
 from pathlib import Path
 from textwrap import dedent
 
-from galluspa import recording
-from galluspa.command import OK, Parser, Refused, read_file, whole_number, write_file
 from galluspa.commands.listing import first_state_alone
-from galluspa.library import Library
-from galluspa.limits import Limit
-from galluspa.modules import symbols_of
-from galluspa.program import REFUSED, Program
-from galluspa.recording import PAGE_BYTES, PLACES
-from galluspa.sessions import COUNTS, MEMORY_BYTES
-from galluspa.symbols import written
-from galluspa.tracing import Run
+from galluspa.engine.library import Library
+from galluspa.engine.program import REFUSED, Program
+from galluspa.engine.tracing import Run
+from galluspa.formats import recording
+from galluspa.formats.oberonmodules import symbols_of
+from galluspa.formats.recording import MEMORY_BYTES, PAGE_BYTES, PLACES
+from galluspa.formats.sessions import COUNTS
+from galluspa.formats.symbolfiles import written
+from galluspa.process.cli import OK, Output, Parser, Refused, read_file, whole_number, write_file
+from galluspa.process.timelimit import Limit
 
 
 def parser() -> Parser:
@@ -39,15 +39,15 @@ def parser() -> Parser:
     options.add_argument(
         "--at", metavar="N", type=whole_number(0, COUNTS), help="of a recording: the count (default: that of the last checkpoint)"
     )
-    options.add_argument("-o", "--output", metavar="FILE", help="write the symbol file, and do not print it")
-    options.add_limit_option("end after so many seconds")
+    options.add_argument("-o", "--output", metavar="FILE", type=Output, help="write the symbol file, and do not print it")
+    options.add_limit_option("end after this many seconds")
     options.add_program_option()
     options.add_library_option()
     return options
 
 
 def memory_of(asked: Namespace) -> bytes:
-    """Returns the memory that is asked for, with all its bytes."""
+    """Returns all bytes of the memory that the options name."""
     text = read_file(asked.oberon)
     if text.startswith(b"ORSR"):
         return _recorded(asked)
@@ -75,7 +75,7 @@ def _recorded(asked: Namespace) -> bytes:
 
 
 def main(asked: Namespace) -> int:
-    """Prints or writes the symbol file that was asked for."""
+    """Prints or writes the symbol file of a memory."""
     try:
         text = written(symbols_of(memory_of(asked)), ())
     except Refused as refusal:

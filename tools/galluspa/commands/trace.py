@@ -11,19 +11,22 @@ from argparse import Namespace
 from pathlib import Path
 from textwrap import dedent
 
-from galluspa import recording
-from galluspa.command import FAILED, OK, WRONG, Failed, Parser, Refused, complain, read_file, whole_number, write_records
-from galluspa.conditions import CONDITIONS, conditions_of
-from galluspa.finding import Search
-from galluspa.library import Library, Machine
-from galluspa.limits import Limit, TimeIsUp
-from galluspa.naming import Trace
-from galluspa.program import Program
-from galluspa.recording import STOPS
-from galluspa.sessions import COUNTS
-from galluspa.symbols import Symbols, symbols_for
-from galluspa.traceformats import RECORD, JsonLines, record
-from galluspa.tracing import WORKERS, Run
+from galluspa.analysis.calls import Calls, add_stack_limit_option
+from galluspa.analysis.calltrace import CallTrace, Trace
+from galluspa.analysis.conditions import CONDITIONS, conditions_of
+from galluspa.analysis.search import Search
+from galluspa.engine.library import Library
+from galluspa.engine.machine import Machine
+from galluspa.engine.program import Program
+from galluspa.engine.tracing import WORKERS, Run
+from galluspa.formats.builds import tell_misfit
+from galluspa.formats.recording import STOPS
+from galluspa.formats.sessions import CHECKPOINTS, COUNTS
+from galluspa.formats.symbolfiles import symbols_for
+from galluspa.formats.symbols import Symbols
+from galluspa.output.traceformats import RECORD, JsonLines, record
+from galluspa.process.cli import FAILED, OK, WRONG, Failed, Parser, Refused, complain, read_file, whole_number, write_records
+from galluspa.process.timelimit import Limit, TimeIsUp
 
 STEPS = 20
 
@@ -68,15 +71,16 @@ def parser() -> Parser:
     options.add_argument(
         "--at",
         metavar="K",
-        type=whole_number(0, 4096),
+        type=whole_number(0, CHECKPOINTS),
         help="begin at what checkpoint K claims, and do not check whether that is true",
     )
     options.add_argument(
         "--calls",
         action="store_true",
-        help="where another procedure begins or goes on, print who probably called it: a guess from R15 "
-        "and the words at R14, since the machine has no frames",
+        help="where another procedure begins or resumes, print the calls that have not returned; with --at, those since "
+        "checkpoint K",
     )
+    add_stack_limit_option(options)
     options.add_symbols_option()
     forms = options.add_mutually_exclusive_group()
     forms.add_argument("--json", action="store_true", help="print one JSON object per line")
@@ -85,7 +89,7 @@ def parser() -> Parser:
         action="store_true",
         help=f"write a record of {RECORD.size} bytes for each instruction, for other programs; docs/debugging.md " "has its fields",
     )
-    options.add_limit_option("end after so many seconds, and say how far that was")
+    options.add_limit_option("end after this many seconds, and say how far that was")
     options.add_program_option()
     options.add_library_option()
     return options
@@ -97,10 +101,10 @@ def run_of(asked: Namespace, limit: Limit) -> Run:
     if asked.at is None:
         return Run.checked(library, program, asked.recording)
     text = read_file(asked.recording)
-    read = recording.lawful(program, str(asked.recording), text)
+    read = program.decoded(str(asked.recording), text)
     if asked.at >= len(read.checkpoints):
         raise Refused(f"{asked.recording}: no checkpoint {asked.at}")
-    return Run(library, text, read, range(asked.at, asked.at + 1))
+    return Run(library, read, range(asked.at, asked.at + 1))
 
 
 def end_of(asked: Namespace, run: Run) -> int:
@@ -124,7 +128,7 @@ def show(run: Run, machine: Machine, to: int, asked: Namespace, symbols: Symbols
     if asked.binary:
         write_records(map(record, run.raw_steps(machine, to)))
         return
-    trace = Trace(symbols, memoryview(machine.memory()).cast("I") if asked.calls else None)
+    trace = CallTrace(symbols, machine, Calls(run, asked.stack_limit)) if asked.calls else Trace(symbols)
     if not asked.json:
         for step in run.steps(machine, to):
             print("\n".join(trace.lines(step)))
@@ -155,12 +159,13 @@ def search(asked: Namespace, run: Run, it: Search, symbols: Symbols) -> int:
 
 
 def main(asked: Namespace) -> int:
-    """Prints the instructions that were asked for; the status is 1 if the condition of --until holds at none."""
+    """Prints instructions of a run; the status is 1 if the condition of --until holds at none."""
     if asked.binary and asked.calls:
         raise Refused("leave out --calls: records of --binary have no names")
     symbols = symbols_for(asked.symbols, asked.recording)
     conditions = conditions_of(asked.until, symbols) if asked.until else []
     run = run_of(asked, Limit(asked.limit))
+    tell_misfit(symbols, run.first_memory)
     to = end_of(asked, run)
     if conditions:
         return search(asked, run, Search(run, conditions, asked.first, to, WORKERS), symbols)

@@ -1,0 +1,382 @@
+"""Finds when a condition holds in the run of a recording: at which count first, at which last, and at all of them.
+
+A search goes through the segments between checkpoints that are known to be true, several of them at a time, and through
+each in slices of a part of a second. The library lists the hits of a slice, and records what the instructions there do.
+"""
+
+import ctypes
+import threading
+import time
+from collections.abc import Callable, Generator, Iterable, Iterator, Sequence
+from dataclasses import dataclass, replace
+from functools import cached_property, partial
+from itertools import chain, islice, pairwise
+from typing import TypeVar
+
+from galluspa.analysis.expressions import Moment
+from galluspa.analysis.rawconditions import SENDS, SENDS_BYTE, STOPS, TAKES, Condition, Raw
+from galluspa.engine.library import AND, FIRST, LAST
+from galluspa.engine.machine import Inputs, Machine, Sent, slice_end, steps_after
+from galluspa.engine.recorded import RawStep, steps_at
+from galluspa.engine.structures import RawCondition, RawHit
+from galluspa.engine.tracing import Run, Step, step_of
+from galluspa.process import children
+from galluspa.process.cli import progress
+from galluspa.process.timelimit import Limit, TimeIsUp
+
+# The first and the most steps of a slice of a search, of which the library does some tens of millions a second; more if the
+# machine waits.
+FIRST_STEPS, MOST_STEPS = 1 << 19, 1 << 22
+# What sends, stops or takes an input is seen from outside: how many steps are done at once, more if the machine waits, and
+# searched if need be.
+BLOCK_STEPS = 1 << 24
+# The fewest steps of a segment that is searched, but the last: each costs some milliseconds, however short it is.
+LEAST_SEGMENT = 1 << 20
+# The last hit is sought from the end of a segment backward: in LAST_STEPS, then in GROWTH times as many before them.
+LAST_STEPS, GROWTH = 1 << 22, 4
+# How many hits are kept of each segment that is searched beside others; if callers take more, segments come one at a time.
+KEPT = 10_000
+# The most hits that a call of the library returns.
+ROOM = 1 << 10
+T = TypeVar("T")
+
+
+class _Abandoned(Exception):
+    """The search was cancelled."""
+
+
+@dataclass
+class Hit:
+    """A count at which a condition holds: its instruction, in numbers, and the condition."""
+
+    raw: RawStep
+    condition: Condition
+
+    @property
+    def count(self) -> int:
+        """The count."""
+        return self.raw.at
+
+    @cached_property
+    def step(self) -> Step:
+        """The instruction, with the states before and after it."""
+        return step_of(self.raw)
+
+
+@dataclass(frozen=True)
+class _Segment:
+    """Counts from one up to another, and which segment of a search they are."""
+
+    number: int
+    first: int
+    end: int
+
+
+class _Watch(Limit):
+    """The limit of a search in a thread, which also ends when the search is cancelled."""
+
+    def __init__(self, limit: Limit | None, is_over: threading.Event) -> None:
+        self._limit = limit
+        self._is_over = is_over
+
+    def left(self) -> float:
+        if self._is_over.is_set() or children.is_ending():
+            raise _Abandoned
+        return self._limit.left() if self._limit else float("inf")
+
+
+def array_of(raws: Sequence[Raw]) -> ctypes.Array[RawCondition]:
+    """Conditions as the library takes them."""
+    rows = ((it.kind + AND * it.is_joined, it.first, it.end, it.value, it.least, it.most) for it in raws)
+    return (RawCondition * len(raws))(*(RawCondition(*row) for row in rows))
+
+
+class Search:
+    """A search for conditions, of which one has to hold, in a run from a count up to another."""
+
+    def __init__(
+        self,
+        run: Run,
+        conditions: Sequence[Condition],
+        first: int,
+        to: int,
+        jobs: int = 1,
+        tell: Callable[[str], None] = progress,
+    ) -> None:
+        """A search by a number of threads, which reports its progress."""
+        self._run = run
+        self._tell_user = tell
+        self._conditions = conditions
+        self._owners = [condition for condition in conditions for _ in condition.raws]
+        self._raws = [raw for condition in conditions for raw in condition.raws]
+        self._array = array_of(self._raws)
+        self._are_the_librarys = all(it.is_so is it.test is it.after is None for it in conditions)
+        self._is_seen_outside = {it.kind for it in self._raws} <= {SENDS, SENDS_BYTE, STOPS, TAKES}
+        starts = list(_apart([run.counts[it] for it in run.true if first < run.counts[it] < to], first))
+        self._segments = [_Segment(at, *ends) for at, ends in enumerate(pairwise([first, *starts, to]))]
+        self._jobs = min(jobs, len(self._segments))
+        # Of each segment, the count before which all is searched, the one from which on it is, and how much more is.
+        self._reached = [it.first for it in self._segments]
+        self._left = [it.end for it in self._segments]
+        self._more = [0 for _ in self._segments]
+        self._done, self._lock = 0, threading.Lock()
+        self._is_over = threading.Event()
+        self._has_stopped = False
+        self.first_count, self.end = first, to
+
+    @property
+    def text(self) -> str:
+        """What is sought."""
+        return " or ".join(it.text for it in self._conditions)
+
+    def reached(self) -> int:
+        """The count before which nothing is left to be searched, if the search goes forward."""
+        pairs = zip(self._segments, self._reached, strict=True)
+        return next((count for segment, count in pairs if count < segment.end), self.end)
+
+    def left_before(self) -> int:
+        """The count from which on nothing is left to be searched, if the search goes backward."""
+        pairs = zip(reversed(self._segments), reversed(self._left), strict=True)
+        return next((count for segment, count in pairs if count > segment.first), self.first_count)
+
+    def why_not_later(self) -> str:
+        """What is said if nothing is found, of a machine that does nothing more."""
+        return ": the machine has stopped" if self._has_stopped else ""
+
+    def first(self) -> Hit | None:
+        """The first hit."""
+        return next(self.all(1), None)
+
+    def last(self) -> Hit | None:
+        """The last hit."""
+        found = self._each(self._last_of, reversed(self._segments))
+        try:
+            return next((hit for hit in found if hit), None)
+        finally:
+            self._end(found)
+
+    def all(self, most: int) -> Iterator[Hit]:
+        """The first hits, at most `most`, in the order of their counts."""
+        if most > KEPT:
+            self._jobs = 1
+
+        def hits_of(segment: _Segment, run: Run) -> Iterable[Hit]:
+            hits = islice(self._hits_of(segment, run, most), most)
+            if self._jobs > 1:
+                return _Kept(hits)
+            return hits
+
+        found = self._each(hits_of, self._segments)
+        try:
+            yield from islice(chain.from_iterable(found), most)
+        finally:
+            self._end(found)
+
+    def _end(self, found: Generator[object, None, None]) -> None:
+        """Ends what still searches, and takes the line of progress away."""
+        self._is_over.set()
+        found.close()
+        self._tell_user("")
+
+    def _each(self, function: Callable[[_Segment, Run], T], segments: Iterable[_Segment]) -> Generator[T, None, None]:
+        """What a function of a segment and a run gives for each segment, in their order."""
+        if self._jobs <= 1:
+            yield from (function(segment, self._run) for segment in segments)
+            return
+        self._is_over = threading.Event()
+        library = replace(self._run.library, limit=_Watch(self._run.library.limit, self._is_over))
+        run = self._run.with_library(library)
+        yield from children.in_parallel(self._jobs, lambda it: function(it, run), segments)
+
+    def _hits_of(self, segment: _Segment, run: Run, most: int) -> Iterator[Hit]:
+        """The hits of a segment, at most `most`."""
+        tell, room = partial(self._tell, self._reached, segment), min(most, ROOM)
+        for machine, end in self._slices(run, run.machine(segment.first), segment.end, tell):
+            while machine.count < end:
+                later = machine.copy()
+                found = run.library.hits(later, run.inputs, end, self._array, room)
+                yield from self._hits_at(run, machine, found)
+                machine.state, machine.words = later.state, later.words
+                tell(machine.count)
+        tell(segment.end)
+
+    def _hits_at(self, run: Run, machine: Machine, found: Sequence[RawHit]) -> Iterator[Hit]:
+        """What the library found from a machine's count on, but only where the conditions hold that it has no words for."""
+        there = machine if self._are_the_librarys else _There(run, machine.copy())
+        steps = steps_at(run.library, machine, run.inputs, [it.count for it in found])
+        for it, raw in zip(found, steps, strict=True):
+            condition: Condition | None = self._owners[it.condition]
+            if isinstance(there, _There):
+                condition = self._condition_at(there, raw, it.condition)
+            if condition:
+                yield Hit(raw, condition)
+
+    def _condition_at(self, there: "_There", raw: RawStep, index: int) -> Condition | None:
+        """The first condition that holds at an instruction that the library found, since that of an index does; None if none
+        does."""
+        step = step_of(raw)
+        for condition in self._conditions[self._conditions.index(self._owners[index]) :]:
+            is_so = condition.is_so is None or condition.is_so(step)
+            is_own = condition is self._owners[index]
+            if is_so and (is_own or there.meets(raw.at, condition)) and there.passes(step, condition):
+                return condition
+        return None
+
+    def _last_of(self, segment: _Segment, run: Run) -> Hit | None:
+        """The last hit of a segment. What is near its end is searched first."""
+        starts, end = _starts(segment.first, segment.end), segment.end
+        machine, machines = run.machine(segment.first), []
+        for start in reversed(starts):
+            run.advance(machine, start)
+            machines.append(machine.copy())
+        for start in starts:
+            tell = partial(self._tell_more, segment, start)
+            if hit := self._last_in(run, machines.pop(), end, tell):
+                return hit
+            end = start
+            tell(start)
+            self._tell(self._left, segment, start)
+        return None
+
+    def _last_in(self, run: Run, machine: Machine, to: int, tell: Callable[[int], None]) -> Hit | None:
+        """The last hit from a machine's count up to another."""
+        found: tuple[tuple[int, Condition], Machine] | None = None
+        for start, end in self._slices(run, machine, to, tell):
+            if later := self._found(run, start, end):
+                found = later, start.copy()
+            run.advance(start, end)
+        if not found:
+            return None
+        (count, condition), near = found
+        run.advance(near, count)
+        return Hit(next(run.raw_steps(near, count + 1)), condition)
+
+    def _slices(self, run: Run, machine: Machine, to: int, tell: Callable[[int], None]) -> Iterator[tuple[Machine, int]]:
+        """The slices of a run up to a count in which something may be found: a machine, which has to be advanced
+        meanwhile, and the count to which. `tell` gets how far they come. A machine that has stopped does nothing
+        more."""
+        steps, block, searched = FIRST_STEPS, BLOCK_STEPS, machine.count
+        while machine.count < to and not machine.state.stop:
+            first, began = machine.count, time.monotonic()
+            if self._is_seen_outside and first >= searched:
+                searched = slice_end(machine, run.inputs, block, to, BLOCK_STEPS)
+                later = machine.copy()
+                sent = run.advance(later, searched)
+                block = max(steps_after(later, searched - first, time.monotonic() - began), BLOCK_STEPS)
+                if not self._may_hold(run.inputs, machine, later, sent):
+                    machine = later
+                    tell(machine.count)
+                    continue
+            began = time.monotonic()
+            end = slice_end(machine, run.inputs, steps, searched if self._is_seen_outside else to, MOST_STEPS)
+            if run.library.limit:
+                run.library.limit.left()
+            yield machine, end
+            tell(machine.count)
+            steps = steps_after(machine, end - first, time.monotonic() - began)
+        self._has_stopped |= machine.state.stop > 0
+
+    def _tell(self, counts: list[int], segment: _Segment, count: int) -> None:
+        """Notes how far a segment is searched, and shows how much of all is."""
+        with self._lock:
+            self._done += (count - counts[segment.number]) * (-1 if counts is self._left else 1)
+            counts[segment.number] = count
+        self._tell_user(f"searched {self._done:,} of {self.end - self.first_count:,}")
+
+    def _tell_more(self, segment: _Segment, first: int, count: int) -> None:
+        """Notes how far a piece of a segment is searched that is searched backward, from its first count up to another."""
+        self._tell(self._more, segment, count - first)
+
+    def _may_hold(self, inputs: Inputs, before: Machine, after: Machine, sent: Sent) -> bool:
+        """Whether something that is seen from outside comes about between two machines of a run, which sends this
+        meanwhile."""
+        kinds = {it.kind for it in inputs.of(before.count, after.count)}
+
+        def may(raw: Raw) -> bool:
+            if raw.kind == SENDS_BYTE:
+                return raw.value in sent.first or len(sent.first) < sent.length
+            return {SENDS: sent.length > 0, STOPS: after.state.stop > 0, TAKES: raw.value in kinds}[raw.kind]
+
+        return any(may(raw) for raw in self._raws)
+
+    def _found(self, run: Run, machine: Machine, end: int) -> tuple[int, Condition] | None:
+        """The last count of a slice at which a condition holds, and the condition."""
+        if self._are_the_librarys:
+            found = run.library.search(machine, run.inputs, end, self._array, LAST)
+            return (found[0], self._owners[found[1]]) if found else None
+        last, there = None, machine.copy()
+        while there.count < end:
+            before = there.copy()
+            for hit in self._hits_at(run, before, run.library.hits(there, run.inputs, end, self._array, ROOM)):
+                last = hit
+        return (last.count, last.condition) if last else None
+
+
+class _There:
+    """A machine that runs on to the counts at which something is tested; they rise."""
+
+    def __init__(self, run: Run, machine: Machine) -> None:
+        self._run = run
+        self._machine = machine
+        self._later: Machine | None = None
+
+    def passes(self, step: Step, condition: Condition) -> bool:
+        """Whether what a condition tests before an instruction and after it holds."""
+        if condition.test and not condition.test(Moment(step.before, partial(self._word, step.before.count))):
+            return False
+        return condition.after is None or condition.after(Moment(step.after, partial(self._later_word, step.after.count)))
+
+    def _word(self, count: int, at: int) -> int:
+        """A word of memory before the instruction of a count, to which the machine runs."""
+        self._run.advance(self._machine, count)
+        return self._machine.words[at]
+
+    def _later_word(self, count: int, at: int) -> int:
+        """The same at the count after one to which the machine may have run."""
+        if self._later is None:
+            self._later = self._machine.copy()
+        self._run.advance(self._later, count)
+        return self._later.words[at]
+
+    def meets(self, count: int, condition: Condition) -> bool:
+        """Whether a condition of the library holds at the instruction of a count."""
+        self._run.advance(self._machine, count)
+        found = self._run.library.search(self._machine, self._run.inputs, count + 1, array_of(condition.raws), FIRST)
+        return found is not None
+
+
+def _apart(counts: Iterable[int], first: int) -> Iterator[int]:
+    """Yields those of rising counts that are far enough from a count, and from one another, to be where segments begin."""
+    for count in counts:
+        if count - first >= LEAST_SEGMENT:
+            first = count
+            yield count
+
+
+def _starts(first: int, end: int) -> list[int]:
+    """Where the pieces of a segment begin, from the last one to the first one, each longer than the one after it."""
+    starts, steps = [], LAST_STEPS
+    while end - first > steps:
+        end -= steps
+        starts.append(end)
+        steps *= GROWTH
+    return [*starts, first]
+
+
+class _Kept:
+    """Hits that were found in a thread, and are read once they are handed over. If the time was
+    over first, that comes after them."""
+
+    def __init__(self, found: Iterable[Hit]) -> None:
+        self._hits: list[Hit] = []
+        self._over: TimeIsUp | None = None
+        try:
+            for hit in found:
+                self._hits.append(hit)
+        except TimeIsUp as over:
+            self._over = over
+
+    def __iter__(self) -> Iterator[Hit]:
+        yield from self._hits
+        if self._over:
+            raise self._over

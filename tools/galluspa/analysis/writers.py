@@ -1,0 +1,170 @@
+"""Asks a run who wrote a part last, by searches of the library; reads which part is asked for, and finds where its value comes
+from."""
+
+from collections.abc import Sequence
+from dataclasses import dataclass
+
+from galluspa.analysis.addresses import moment_of, place_words, register_named
+from galluspa.analysis.conditionwords import Words, place_of
+from galluspa.analysis.expressions import Moment
+from galluspa.analysis.origins import (
+    ALL_FLAGS,
+    Bytes,
+    Dot,
+    Flags,
+    Register,
+    Value,
+    Written,
+    bytes_of,
+    flags_of,
+    is_sum,
+    origins,
+    register_of,
+)
+from galluspa.analysis.rawconditions import CHANGE, IS, KIND_NUMBERS, REGISTER_NUMBERS, STORE, WRITES, Condition, Raw
+from galluspa.analysis.search import Search
+from galluspa.engine.machine import Machine
+from galluspa.engine.recorded import STOP
+from galluspa.formats.devicewords import DEVICES_AT, LEDS_AT, MOST_KEYS
+from galluspa.engine.tracing import Run, Step, step_of
+from galluspa.formats.recording import DISPLAY_START, MEMORY_BYTES, Event
+from galluspa.formats.symbols import Symbols, shown
+from galluspa.process.cli import Refused
+
+# The numbers of last instructions that are searched in turn before all: who wrote something last is mostly near.
+NEAR = (1 << 10, 1 << 16, 1 << 22)
+SUMS_NEAR = (1 << 8, 1 << 12, 1 << 17)
+# The kinds of inputs that set the devices from which one loads.
+KINDS_OF = {"switches": "switches", "mouse": "mouse", "serial": "serial", "timer": "timer", "keys": "key"}
+# The default number of links, and the most.
+LINKS, MOST_LINKS = 20, 200
+WANTED = "expected R0 to R15, SP, LNK, H, flags, LEDs, a word of memory or some of its bytes, *ADDRESS, or dot X,Y"
+
+
+@dataclass(frozen=True)
+class Writers:
+    """The last writes in a run."""
+
+    run: Run
+    jobs: int = 1
+
+    def last_write(self, part: Written, before: int) -> Step | None:
+        """Returns the last instruction before a count that wrote a part; of a dot, that changed it."""
+        if isinstance(part, Flags) and "N" not in part.names:
+            return self._last_sum(part, before)
+        return self._last(_writing(part), before)
+
+    def _last(self, condition: Condition, before: int) -> Step | None:
+        """Returns the last instruction before a count at which a condition holds."""
+        to, begin = before, self.run.first_count
+        for steps in (*NEAR, before):
+            first = max(before - steps, begin)
+            hit = Search(self.run, [condition], first, to, self.jobs if first == begin else 1).last() if first < to else None
+            if hit:
+                return hit.step
+            to = first
+        return None
+
+    def _last_sum(self, part: Flags, before: int) -> Step | None:
+        """Returns the last addition or subtraction before a count, which no condition of the library says: it is sought among
+        the last instructions. If there is none, the last instruction that changed the flags C and V."""
+        to = before
+        for steps in SUMS_NEAR:
+            first = max(before - steps, self.run.first_count)
+            found = [it for it in self.run.raw_steps(self.run.machine(first), to) if is_sum(it.word) and not it.after[STOP]]
+            if found:
+                return step_of(found[-1])
+            to = first
+        now = flags_of(self.run.machine(before).state.flags, part)
+        others = [it for it in range(16) if flags_of(it, part) != now]
+        raws = tuple(Raw(IS, REGISTER_NUMBERS["flags"], least=it, most=it) for it in others)
+        hit = self._last(Condition("flags changed", raws), before)
+        return step_of(next(self.run.raw_steps(self.run.machine(hit.before.count), hit.before.count + 1))) if hit else None
+
+    def input_of(self, device: str, step: Step) -> Event | None:
+        """Returns the input that set a device last, or of keys the one whose key comes first."""
+        kind = KIND_NUMBERS[KINDS_OF[device]]
+        taken = [it for it in step.inputs if it.kind == kind]
+        if device == "keys":
+            return self._key(step, taken)
+        if device == "timer" and step.before.rate:
+            return None
+        if taken:
+            return taken[-1]
+        return next((it for it in reversed(self._inputs_before(step.before.count)) if it.kind == kind), None)
+
+    def _inputs_before(self, count: int) -> Sequence[Event]:
+        """Returns the inputs from the beginning of the run up to a count."""
+        return self.run.inputs.of(self.run.first_count, count)
+
+    def _key(self, step: Step, taken: list[Event]) -> Event | None:
+        """Returns the input of the key that is first before an instruction: of as many keys as wait, the first of the last
+        inputs that were not dropped."""
+        waiting = len(step.before.keys)
+        if not waiting:
+            return taken[0] if taken else None
+        earlier = [it for it in self._inputs_before(step.before.count) if it.kind == KIND_NUMBERS["key"]]
+        for at in range(len(earlier) - 1, -1, -1):
+            before = sum(it.count == earlier[at].count for it in earlier[:at])
+            if self.run.machine(earlier[at].count).state.key_count + before < MOST_KEYS:
+                waiting -= 1
+            if not waiting:
+                return earlier[at]
+        return None
+
+
+def origins_asked(run: Run, machine: Machine, text: str, symbols: Symbols, most: int = LINKS, jobs: int = 1) -> list[Value]:
+    """Returns where the value comes from that a machine of a run has in the part that a text names, by at most `most` links."""
+    moment = moment_of(machine)
+    part = part_asked(text, moment, symbols)
+    return origins(Writers(run, jobs), part, value_now(part, moment), machine.count, most)
+
+
+def _writing(part: Written) -> Condition:
+    """Returns the condition that an instruction writes a part."""
+    match part:
+        case Register(name):
+            return Condition(f"writes {name}", (Raw(WRITES, REGISTER_NUMBERS[name]),))
+        case Flags():
+            return Condition("writes flags", (Raw(WRITES, REGISTER_NUMBERS["flags"]),))
+        case Dot(address, bit):
+            return Condition("change dot", (Raw(CHANGE, address, address + 4, 1 << bit),))
+    raws = [Raw(STORE, part.address + at, part.address + at + 1) for at in range(4) if part.mask >> at & 1]
+    return Condition("store", tuple(raws) if part.mask != 15 else (Raw(STORE, part.address, part.address + 4),))
+
+
+def part_asked(text: str, moment: Moment, symbols: Symbols) -> Written:
+    """Returns the part that a text names: a register, the LEDs, a dot, or a word of memory or bytes of one."""
+    if not text.strip():
+        raise Refused(WANTED)
+    if name := register_named(text):
+        return Flags(ALL_FLAGS) if name == "flags" else Register(name)
+    if text.strip().lower() == "leds" and not symbols.places(text.strip()):
+        return Bytes(LEDS_AT)
+    words = Words(place_words(text, moment, symbols), symbols)
+    is_dot = words.next == "dot"
+    try:
+        place = place_of(words, has_devices=True)
+    except ValueError as why:
+        raise Refused(f"{shown(text)}: {why}") from why
+    if words or place.end - (place.first & ~3) > 4 or place.first >= DEVICES_AT and place.first & ~3 != LEDS_AT:
+        raise Refused(f"{shown(text)}: {WANTED}")
+    if is_dot:
+        bit = place.mask.bit_length() - 1
+        row, left = divmod(place.first - DISPLAY_START, 128)
+        return Dot(place.first, bit, 8 * left + bit, row)
+    return Bytes(place.first & ~3, sum(1 << (at & 3) for at in range(place.first, place.end)))
+
+
+def value_now(part: Written, moment: Moment) -> int:
+    """Returns the value of a part at a moment."""
+    match part:
+        case Register(name):
+            return register_of(moment.state, name)
+        case Flags():
+            return flags_of(moment.state.flags, part)
+        case Dot(address, bit):
+            return moment.word(address // 4) >> bit & 1
+        case Bytes(address) if address < MEMORY_BYTES:
+            return bytes_of(moment.word(address // 4), part)
+    return moment.state.leds

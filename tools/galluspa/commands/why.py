@@ -1,0 +1,88 @@
+"""Says where a value in the run of a recording comes from: who wrote it, from which values, who wrote these, and so on.
+
+Each link is the last write before a count, which the proved library finds. It shows the machine, whatever the recording claims.
+"""
+
+import json
+from argparse import Namespace
+from pathlib import Path
+from textwrap import dedent
+
+from galluspa.analysis.origintexts import lines, objects
+from galluspa.analysis.timeline import Timeline
+from galluspa.analysis.writers import LINKS, MOST_LINKS, origins_asked
+from galluspa.engine.opening import opened
+from galluspa.engine.tracing import add_workers_option
+from galluspa.formats.sessions import COUNTS
+from galluspa.formats.sourcetext import Sources
+from galluspa.process.cli import OK, Failed, Parser, whole_number
+from galluspa.process.timelimit import Limit, TimeIsUp
+
+
+def parser() -> Parser:
+    """Returns the command line of this tool."""
+    options = Parser(
+        dedent(
+            """\
+            Says where a value comes from: which instruction wrote a register, a word of memory or a dot last, from
+            which values it made that, which instructions wrote these, and so on to constants, inputs and the initial
+            memory. Each link is found by a search, and so it is the last write indeed. It follows values, and not the
+            branches that led to an instruction; of loads and stores also the register with the address, unless that is
+            the stack pointer. Copies are followed first. A PART is
+              R0 to R15, SP, LNK, H    a register
+              flags, LEDs              the flags N, Z, C and V; the LEDs
+              ADDRESS, FIRST-LAST      a word of memory, or some of its bytes
+              NAME, NAME+8             a word that a symbol file names
+              *SP+8, Mem[SP+8]         the word at the address that this is then
+              dot X,Y                  a dot of the screen: the last instruction that changed it
+            """
+        ),
+        "galluspa why examples/face.orsr dot 600,219 --links 5",
+    )
+    options.add_argument("recording", metavar="RECORDING", type=Path)
+    options.add_argument("part", metavar="PART", nargs="+", help="whose value, as above")
+    options.add_argument(
+        "--at",
+        metavar="N",
+        type=whole_number(0, COUNTS),
+        help="the count before which it has the value (default: the last checkpoint's)",
+    )
+    options.add_argument(
+        "--links",
+        metavar="N",
+        type=whole_number(1, MOST_LINKS),
+        default=LINKS,
+        help=f"follow at most N instructions (default {LINKS})",
+    )
+    options.add_argument("--json", action="store_true", help="print one JSON object")
+    options.add_argument(
+        "--directory",
+        metavar="FOLDER",
+        type=Path,
+        action="append",
+        default=[],
+        help="also show lines of sources that are below this folder (default: those below the folder of the symbol file); may be "
+        "used several times",
+    )
+    options.add_symbols_option()
+    add_workers_option(options)
+    options.add_limit_option("end after this many seconds")
+    options.add_program_option()
+    options.add_library_option()
+    return options
+
+
+def main(asked: Namespace) -> int:
+    """Prints where a value comes from."""
+    it = opened(asked, Limit(asked.limit))
+    run, symbols, count = Timeline(it.run), it.symbols, it.count(asked.at)
+    try:
+        values = origins_asked(run, run.machine(count), " ".join(asked.part), symbols, asked.links, asked.jobs)
+    except TimeIsUp as over:
+        raise Failed(f"{over}: not all links were found") from over
+    if asked.json:
+        print(json.dumps({"count": count, "values": objects(values, symbols)}))
+    else:
+        folders = [*asked.directory, (asked.symbols or asked.recording).parent]
+        print("\n".join(lines(values, symbols, Sources(folders))))
+    return OK

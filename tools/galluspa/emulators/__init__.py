@@ -1,0 +1,1 @@
+"""Other emulators: how they are asked, the trials on which they are compared with the machine, and what is found."""

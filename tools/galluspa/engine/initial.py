@@ -1,0 +1,42 @@
+"""The recording of what a session or a recording begins with and of its inputs, for tools that run it for themselves."""
+
+import json
+from pathlib import Path
+
+from galluspa.engine.program import REFUSED, Program
+from galluspa.formats.sessionfaults import parsed
+from galluspa.formats.sessions import CHECKPOINTS, COUNTS
+from galluspa.process.cli import Refused, read_file
+
+
+def recording_of(program: Program, path: Path, to: int | None) -> tuple[bytes, int]:
+    """Returns a recording that begins as a session or a recording does and has its inputs, and the count up to which it is looked
+    at: the one that is given, or that of the last checkpoint."""
+    text, last = _begun(program, path)
+    if not to and not last:
+        raise Refused(f"{path}: no checkpoint: give --to N")
+    return text, to or last
+
+
+def _begun(program: Program, path: Path) -> tuple[bytes, int]:
+    """Returns the recording, and the count of its last checkpoint, or 0."""
+    text = read_file(path)
+    if text.startswith(b"ORSR"):
+        return text, program.decoded(str(path), text).checkpoints[-1].count
+    session, last = _without_checkpoints(text)
+    answer = program.record(session)
+    if answer.status == REFUSED:
+        raise Refused(f"{path}: neither a recording nor a session: {answer.line}")
+    return answer.output, last
+
+
+def _without_checkpoints(text: bytes) -> tuple[bytes, int]:
+    """Returns a session without its checkpoints, so that recording it runs nothing, and the last of their counts. A text
+    whose checkpoints are not lawful stays as it is, for the program to refuse."""
+    session = parsed(text)
+    counts = session.get("checkpoints") if isinstance(session, dict) else None
+    if not isinstance(counts, list) or not all(type(count) is int and 0 < count <= COUNTS for count in counts):
+        return text, 0
+    if any(one >= other for one, other in zip(counts, counts[1:])) or len(counts) > CHECKPOINTS:
+        return text, 0
+    return json.dumps({**session, "checkpoints": []}).encode(), counts[-1] if counts else 0

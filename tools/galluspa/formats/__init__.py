@@ -1,0 +1,1 @@
+"""What is read and written: recordings, sessions and their parts, instructions, symbol files, traces, scripts and notes."""

@@ -1,0 +1,10 @@
+"""The addresses of the device words, and which parts of a state they have."""
+
+# The addresses of the device words, and of those whose accesses change something.
+DEVICES_AT, LEDS_AT, SERIAL_AT, KEYS_AT = 0xFFFFC0, 0xFFFFC4, 0xFFFFC8, 0xFFFFDC
+# The parts of a state that loads from device words read.
+LOADED = {0xFFFFC0: "timer", 0xFFFFC4: "switches", SERIAL_AT: "serial", 0xFFFFCC: "serial", 0xFFFFD8: "mouse", KEYS_AT: "keys"}
+# The most key codes that wait.
+MOST_KEYS = 16
+# The bit of the serial part that says that its byte is new.
+RECEIVED = 1 << 8

@@ -1,0 +1,55 @@
+"""Reads the lines of sources that a symbol file names, to show them. A symbol file of a stranger may name any file, so only
+those below some folders are read."""
+
+import stat
+from collections.abc import Sequence
+from pathlib import Path
+
+from galluspa.formats.symbols import Source, from_the_left
+
+# The most bytes of a source, and the most characters of a line that are shown.
+MOST_BYTES, SHOWN = 4 << 20, 120
+
+
+class Sources:
+    """The texts of sources, each of which is read once, from the first of some folders below which it is."""
+
+    def __init__(self, folders: Sequence[Path]) -> None:
+        self._folders = folders
+        self._read: dict[str, list[str]] = {}
+
+    def lines(self, name: str) -> Sequence[str]:
+        """Returns the lines of a source; none if it is not below a folder, or not a text of a proper size."""
+        if name not in self._read:
+            self._read[name] = next(filter(None, (_lines(folder, name) for folder in self._folders)), [])
+        return self._read[name]
+
+    def line(self, source: Source | None) -> str:
+        """Returns a line of a source after its number, as it is shown; nothing if it is not there."""
+        found = self.lines(source.file) if source else []
+        return _numbered(found, source.line) if source and source.line <= len(found) else ""
+
+    def around(self, source: Source, first: int, number: int) -> Sequence[str]:
+        """Returns a number of lines of a source, from one on, with a mark at one of them."""
+        found = self.lines(source.file)
+        numbers = range(max(first, 1), min(max(first, 1) + number, len(found) + 1))
+        return [f"{'=>' if at == source.line else '  '}{_numbered(found, at)}" for at in numbers]
+
+
+def _numbered(lines: Sequence[str], number: int) -> str:
+    return f"{number:>5}  {from_the_left(lines[number - 1])[:SHOWN]}".rstrip()
+
+
+def _lines(folder: Path, name: str) -> list[str]:
+    """Returns the lines of a file that is a text of a proper size, below a folder, wherever its links lead."""
+    try:
+        path = (folder / name).resolve(strict=True)
+        if not path.is_relative_to(folder.resolve()):
+            return []
+        about = path.stat()
+        if not stat.S_ISREG(about.st_mode) or about.st_size > MOST_BYTES:
+            return []
+        text = path.read_bytes()[:MOST_BYTES]
+    except (OSError, ValueError, RuntimeError):
+        return []
+    return [line.expandtabs() for line in text.decode("utf-8", "replace").splitlines()]

@@ -1,0 +1,1 @@
+"""How a clone is built and packed. No package has this folder."""

@@ -1,0 +1,32 @@
+"""The time that a tool may take."""
+
+import time
+
+
+class TimeIsUp(Exception):
+    """The time limit expired before the answer; its text says so."""
+
+
+class Limit:
+    """A time limit in seconds, from construction on."""
+
+    def __init__(self, seconds: float) -> None:
+        self.seconds = seconds
+        self._end = time.monotonic() + seconds
+
+    @property
+    def is_over(self) -> bool:
+        """Returns whether the limit has expired."""
+        return time.monotonic() >= self._end
+
+    def left(self) -> float:
+        """Returns the seconds that are left. Raises TimeIsUp if none are."""
+        left = self._end - time.monotonic()
+        if left <= 0:
+            raise TimeIsUp(self.answer)
+        return left
+
+    @property
+    def answer(self) -> str:
+        """Returns what a tool answers when the limit has expired."""
+        return f"no answer in {self.seconds:g} s"
