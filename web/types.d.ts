@@ -4,12 +4,11 @@ type Bytes = Uint8Array;
 /** A function that does something now or later. */
 type Task<T = unknown> = (...given: any[]) => T | Promise<T>;
 
-type Library = import("./library.js").Library;
-type Inputs = import("./formats.js").Inputs;
-type Work = import("./works.js").Work;
-type Journal = import("./works.js").Journal;
-type Helper = import("./requests.js").Helper;
-type Past = import("./moments.js").Past;
+type Library = import("./engine/library.js").Library;
+type Inputs = import("./formats/inputs.js").Inputs;
+type Work = import("./host/journal.js").Work;
+type Helper = import("./host/requests.js").Helper;
+type Past = import("./host/pastclient.js").Past;
 
 // Machines
 
@@ -48,6 +47,8 @@ interface Condition {
   from?: number;
   end?: number;
   value?: number;
+  least?: number;
+  most?: number;
 }
 
 /** Where a condition holds, and which of several it is. */
@@ -56,10 +57,23 @@ interface Hit {
   which: number;
 }
 
-/** What was typed and sent, and waits for the machine. */
+/** All hits up to a count. */
+interface Hits {
+  hits: Hit[];
+  end: number;
+}
+
+/** Numbers of a key and of a serial byte, each in the sequence of a run (engine/arrivals.js). */
+interface Numbers {
+  keys: number;
+  serial: number;
+}
+
+/** What was typed and sent, and waits for the machine; and the number of the first of each. An earlier build kept none: they were 0. */
 interface Waiting {
   keys: ArrayLike<number>;
   serial: ArrayLike<number>;
+  taken?: Numbers;
 }
 
 /** A change of the mouse or of the switches: its value, and its time since 1970 in ms. */
@@ -72,6 +86,10 @@ interface Full {
   count: number;
 }
 
+/** At which return a run ends: where fewer than `open` calls are open of those that are now, or of those that are after the first instruction if that calls;
+ * or where PC comes to a word. */
+type Returning = { calls: Bytes; open: number | null } | { pc: number };
+
 // What is kept
 
 /** All of a machine but its state, which follows from its last checkpoint and the inputs after it. */
@@ -83,9 +101,11 @@ interface Begun {
   waiting: Waiting;
 }
 
-/** All of a machine. */
+/** All of a machine. One without its state is at its last checkpoint, and is played back up to a count. */
 interface Whole extends Begun {
   live: Memory | null;
+  marks?: number[];
+  until?: number;
 }
 
 /** What came since a machine was written: `from` is the number of the first input, `until` the count up to which it ran. */
@@ -103,9 +123,35 @@ interface SymbolFile {
   bytes: Bytes;
 }
 
+/** The sources that a machine was run from: the id of what is kept of them, which file was shown, and the names and texts of all at that time. */
+interface Ran {
+  id: string;
+  file: string;
+  sources: [string, string][];
+}
+
+/** Bytes of memory that are watched: the first address, and the one after the last. */
+interface Watch {
+  first: number;
+  end: number;
+}
+
+/** What was looked at: the word numbers of the breakpoints, the count of the cursor or null for now, the id of the source, or an empty text; the bytes that
+ * are watched; and the notes, each with its count. */
+interface DeskState {
+  breaks: number[];
+  cursor: number | null;
+  source: string;
+  watches?: Watch[];
+  notes?: [number, string][];
+}
+
 /** What an item has beside the machine. */
 interface Labels {
   name: string;
+  ran?: Ran;
+  desk?: DeskState;
+  pinned?: boolean;
   symbols?: SymbolFile;
   sent: string;
   family?: number;
@@ -113,11 +159,17 @@ interface Labels {
   parent?: number;
 }
 
-/** An item of the browser's storage. One that an earlier build kept has the `first` state in place of a recording. */
+/** A machine with only those pages of its memory that are not zero. */
+interface PackedMemory extends Memory {
+  pages: Uint16Array;
+}
+
+/** An item of the browser's storage. One that an earlier build kept has all of the memory, or the `first` state in place of a recording. */
 interface Kept extends Labels, Begun {
   id: number;
   by?: string | null;
-  live?: Memory | null;
+  changedAt?: number;
+  live?: Memory | PackedMemory | null;
   first?: Memory;
   marks?: number[];
   until?: number;
@@ -127,15 +179,53 @@ interface KeptSince extends Since {
   id: string;
   of: number;
   by?: string | null;
+  changedAt?: number;
 }
 
-/** What the page shows of an item. */
+/** What an item is about, in a small record of its own: up to which count it goes, its inputs, its bytes, when it was changed last (in ms since 1970), the
+ * shades of its picture, and what was looked at. */
+interface KeptAbout {
+  id: string;
+  of: number;
+  by?: string | null;
+  name: string;
+  family?: number;
+  number?: number;
+  parent?: number;
+  until: number;
+  inputs: number;
+  size: number;
+  changedAt: number;
+  shades?: Bytes;
+  desk?: DeskState;
+  pinned?: boolean;
+}
+
+/** What the item of a source is about: its file, the name of its project, how many files and lines it has, its bytes, and when it was changed last. */
+interface KeptSourceAbout {
+  id: string;
+  of: string;
+  name: string;
+  title?: string;
+  files: number;
+  lines: number;
+  size: number;
+  changedAt: number;
+}
+
+/** What the page shows of a recording or of a source that is kept. `source` is the id of the source that a recording was run from, `size` is in bytes. */
 interface Summary {
   id: any;
+  isSource: boolean;
   isReadable: boolean;
+  isPinned?: boolean;
   name: string;
+  title?: string;
   text: string;
-  dots?: Bytes;
+  size: number;
+  changedAt: number;
+  source?: string;
+  shades?: Bytes;
   family?: number;
   number?: number;
   parent?: number;
@@ -158,7 +248,7 @@ interface Frame {
   sent: string;
   generation: number;
   fork: number;
-  fresh: { inputs: Bytes; marks: number[] };
+  fresh: { inputs: Bytes; marks: number[]; taken: Numbers };
   memory: number;
   on: boolean;
   isQuiet: boolean;
@@ -206,6 +296,7 @@ interface Opened {
   inputs: number;
   checkpoints: number;
   left: Whole | null;
+  begun: Begun | null;
   generation: number;
   fork: number;
 }
@@ -244,7 +335,7 @@ interface Lanes {
   to?: number;
 }
 
-// What a clerk posts
+// What a worker that checks posts
 
 interface Verdicted {
   line: string;
@@ -256,7 +347,7 @@ interface CheckNews extends Failure {
   steps?: number;
   judged?: number;
   checkpoints?: number;
-  stretches?: Verdicted & { stretches: number };
+  slices?: Verdicted & { slices: number };
   estimate?: number;
 }
 
@@ -298,9 +389,11 @@ interface Moment {
   sent: number;
   isClaimed: boolean;
   listing?: { pc: number; word: number }[] | null;
+  // What words did last before that, by their numbers.
+  effects?: [number, string][] | null;
 }
 
-/** What the live machine needs to go on from a count. */
+/** What the live machine needs to resume at a count. */
 interface Start extends Memory {
   at: number;
   sent: number;
@@ -314,6 +407,8 @@ interface Done {
   inputs: [string, number][];
   changes: [string, string, string][];
   did: string;
+  // The address of the first byte that it loads, or null.
+  loads: number | null;
 }
 
 interface Found {
@@ -346,6 +441,49 @@ interface Written {
   request?: number;
 }
 
+/** A part of a machine that has a value: a register or H, by its name; some of the flags, by their letters; bytes of a word of memory, or of the LEDs, where bit i of
+ * the mask is byte i; a bit of a word of the screen; or what inputs set, by its name in a state. */
+interface ValuePart {
+  register?: string;
+  flags?: string;
+  address?: number;
+  mask?: number;
+  bit?: number;
+  device?: string;
+}
+
+/** A value that a part has before a count, and where it comes from: the instruction that wrote it and the values that this used, or where that ends. A number of an
+ * instruction has no part. `role` says what the value is to the instruction that uses it, if that is not plain. */
+interface Origin {
+  part: ValuePart | null;
+  value: number;
+  before: number;
+  role: "" | "address" | "carry";
+  step: { count: number; pc: number; word: number } | null;
+  end: "" | "constant" | "initial" | "taken" | "elsewhere" | "unfollowed";
+  input: Input | null;
+  from: Origin[];
+}
+
+/** A time that an instruction was executed: its count, what it read and wrote, each by its name, and the number that it wrote. */
+interface Execution {
+  count: number;
+  reads: [string, string][];
+  writes: [string, string][];
+  value: number | null;
+}
+
+/** How often words were executed before a count; the first and the last of these times, which have none in common; how many there are in each of some equal parts of the
+ * run; and for how many counts all of that is known. */
+interface Executed {
+  to: number;
+  number: number;
+  first: Execution[];
+  last: Execution[];
+  parts: number[];
+  done: number;
+}
+
 interface Extent {
   counts: number[];
   bytes: number;
@@ -376,12 +514,61 @@ interface Visited {
   times: Float64Array;
 }
 
-/** Where the program was in a span: PC at some counts, or, if there are none, at each count. */
-interface ProgramCounters {
+/** An open call, as include/galluspa.h has it. */
+interface Call {
+  count: number;
+  at: number;
+  to: number;
+  back: number;
+  sp: number;
+}
+
+/** The calls that are open at a count, oldest first, as the library writes them, and the state there; the word at which the machine was before its first
+ * instruction; and the count from which on calls were followed. */
+interface Called {
+  at: number;
+  state: Bytes;
+  calls: Bytes;
+  first: number;
+  since: number;
+}
+
+/** Calls of one depth by rising ends: the first count at which each was open, the first one at which it is not, which is Infinity if it has not returned by the
+ * end of what is known, and the word that it goes to, or -1 for what runs under no call. Those that are too short are in sums of columns: how many there are, and the
+ * word of the most counts. */
+interface FrameRow {
+  begins: Float64Array;
+  ends: Float64Array;
+  entries: Int32Array;
+  sums: { columns: Int32Array; calls: Float64Array; entries: Int32Array };
+}
+
+/** The calls of [from, upTo) in columns of `width` counts: `top` has the last open call at each count; `rows` begin with the deepest call that is open all the
+ * time, which has `base` calls and what runs under none above it, and of which there are `depth`. `followed` is the count up to which calls were followed; before
+ * the beginning of the span nothing is known of it. */
+interface Framed {
   from: number;
   to: number;
-  counts: Float64Array | null;
-  pcs: Uint32Array;
+  upTo: number;
+  followed: number;
+  width: number;
+  first: number;
+  base: number;
+  depth: number;
+  top: FrameRow;
+  rows: FrameRow[];
+}
+
+/** How many instructions the machine did in procedures from a count on and before another: in each by itself, and in each with what it called; and how
+ * often each was called. */
+interface Profiled {
+  from: number;
+  to: number;
+  first: number;
+  entries: number[];
+  own: number[];
+  whole: number[];
+  calls: number[];
 }
 
 /** What comes of a trace that was compared with the machine: how many lines are the same, the counts of the first and the last of them (below 0 if
@@ -418,11 +605,14 @@ interface PastNews extends Failure {
   traced?: { generation: number; request?: number; lines: number; last: number; done: number; of: number };
   peeked?: Moment & { generation: number };
   searched?: { generation: number; request: number; done: number; of: number };
-  who?: Written & { generation?: number };
+  lastWriter?: Written & { generation?: number };
+  why?: { generation?: number; request?: number; values: Origin[] };
+  executed?: Executed & { generation: number; request?: number };
   counted?: { generation: number; to: number; done: number; of: number };
+  followed?: { generation: number; request?: number; done: number; of: number };
 }
 
-/** A piece of a run that the crew searches. */
+/** A piece of a run that the search pool searches. */
 interface Piece extends Memory {
   inputs: Bytes;
   to: number;
@@ -435,19 +625,20 @@ interface Piece extends Memory {
 
 /** What is wrong with a source, at a line and a column, both counted from 1. */
 interface Problem {
+  file: string;
   line: number;
   column: number;
   text: string;
 }
 
-/** A program: its memory, its session without checkpoints, how many words it fills, its symbol file, and the byte address and the line of
- * each instruction. */
+/** A program: its memory, its session without checkpoints, how many words it fills, its symbol file, and the byte address of each instruction,
+ * with its line and its file. */
 interface AssembledProgram {
   memory: Bytes;
   session: string;
   words: number;
   symbols: string;
-  lines: [number, number][];
+  lines: [number, number, string][];
   inputs: number;
   hasCheckpoints: boolean;
 }
@@ -467,6 +658,33 @@ interface SessionOf {
   notes: Problem[];
 }
 
+/** Where a line is. */
+interface LinePlace {
+  file: string;
+  line: number;
+}
+
+/** The first line that both of two programs have whose instruction does something else in the one run than in the other, at these counts, and what it did in each; or,
+ * where that is null, the line after which they go to different lines: 0 if no line was before, and where a machine stops. Lines are counted from 1. */
+interface FirstLine {
+  line: number;
+  counts: [number, number];
+  did: [string, string] | null;
+  goes: [number, number];
+}
+
+/** Where two runs with the same inputs part: at the same count, or null, and up to which count they are the same; and by the lines that both sources have, up to which
+ * counts of each run these do the same, and pairs of counts of the two, each where their distance changes. */
+interface Parting {
+  at: number | null;
+  upTo: number;
+  lines: {
+    first: (Omit<FirstLine, "goes"> & { place: LinePlace | null; goes: (LinePlace | null)[] }) | null;
+    upTo: [number, number];
+    shifts: [number, number][];
+  } | null;
+}
+
 /** What a lesson wants of a program at a count: parts of the state by their names, words of memory by their addresses, and what was sent. */
 interface Wanted {
   at: number;
@@ -481,17 +699,17 @@ interface Wanted {
 interface Requests {
   start: [{ module: WebAssembly.Module }, boolean];
   openRecording: [{ bytes: Bytes; checkpoint: number }, Opened];
-  openSession: [{ bytes: Bytes }, Opened];
+  openSession: [{ bytes: Bytes; isAlwaysKept?: boolean }, Opened];
   openImage: [{ image: Bytes; address: string; registers: string }, Opened];
-  resume: [{ kept: Kept | (Labels & Whole) }, Opened];
-  setRun: [{ on: boolean; fast?: boolean; goal?: number | null; seconds?: number; then?: { fast: boolean } | null; returns?: { pc: number; pointer: number } | null }, void];
+  resume: [{ kept: Kept | (Labels & Whole); isOfFile?: boolean }, Opened];
+  setRun: [{ on: boolean; fast?: boolean; goal?: number | null; seconds?: number; then?: { fast: boolean } | null; returns?: Returning | null }, void];
   setPace: [{ fast: boolean; seconds: number }, void];
   step: [{}, void];
   toCheckpoint: [{ fast: boolean; seconds: number }, void];
-  takeOver: [Start | {}, { left: Whole | null; fork: number }];
+  takeOver: [Start | {}, { left: Whole | null; begun: Begun | null; fork: number }];
   setBreaks: [{ conditions: Condition[] }, void];
   change: [{ kind: number; changes: Change[] }, string | null];
-  type: [{ keys?: ArrayLike<number>; serial?: ArrayLike<number> }, string | null];
+  type: [Partial<Waiting>, { fork: number; first: Numbers } | string];
   cancelSerial: [{}, void];
   mark: [{}, string | null];
   claimed: [{ number: number; of: number }, Claimed | null];
@@ -505,27 +723,39 @@ interface Requests {
   lanes: [{ from: number; to: number; columns: number; of: number }, Lanes | null];
   inputNear: [{ at: number; isBefore: boolean }, number | null];
   check: [{ bytes: Bytes; whole?: number; size?: number }, Verdicted];
-  peek: [{ generation?: number; at: number; quick?: boolean }, Moment | null];
+  peek: [{ generation?: number; at: number; quick?: boolean; hasEffects?: boolean }, Moment | null];
   memory: [{ generation?: number; at: number; from: number; length: number }, { at: number; bytes: Bytes } | null];
   output: [{ generation?: number; at: number; from: number }, { bytes: Bytes } | null];
   moment: [{ generation?: number; at: number }, Start | null];
   around: [{ generation?: number; at: number; before: number; after: number }, Done[] | null];
+  effects: [{ generation?: number; at: number; before: number }, [number, string][] | null];
   find: [{ generation?: number; request?: number; from?: number; to: number; last?: boolean; conditions: Condition[] }, Found];
-  who: [About & { generation?: number; request?: number; before: number }, Written];
+  hits: [{ generation?: number; from: number; to: number; conditions: Condition[] }, Hits | null];
+  lastWriter: [About & { generation?: number; request?: number; before: number }, Written];
+  why: [About & { generation?: number; request?: number; before: number; links: number }, { values?: Origin[]; stopped?: boolean }];
+  executions: [{ generation?: number; request?: number; from: number; end: number; to: number }, Executed | null];
+  stopExecutions: [{}, void];
   recheck: [{ generation?: number; at: number }, { at?: number; part?: string | null; stopped?: boolean }];
   trace: [{ generation?: number; request?: number; file: Blob; isHexadecimal: boolean }, Traced | null];
   stopTrace: [{}, void];
   stopSearch: [{}, boolean];
   keyframes: [{}, Extent];
-  assemble: [{ source: string; file: string }, Assembled];
-  sessionOf: [{ source: string; seconds: number }, SessionOf | null];
+  assemble: [{ source: string; file: string; parts?: [string, string][] }, Assembled];
+  sessionOf: [{ source: string; file?: string; parts?: [string, string][]; seconds: number }, SessionOf | null];
   endSession: [{}, void];
-  judge: [{ source: string; claim: Wanted; seconds: number }, { line: string | null; number: number } | null];
-  parting: [{ one: string; other: string; to: number }, { at: number | null; upTo: number } | null];
+  judge: [{ source: string; file?: string; parts?: [string, string][]; claim: Wanted; seconds: number },
+          { line: string | null; number: number; differing: [string, string, string][]; after: number | null } | null];
+  seen: [{ bytes: Bytes }, Verdicted & { dots: Bytes }];
+  handIn: [{ model: Bytes; own: Bytes; parts: [string, string][]; seconds: number },
+           { line: string; counts: number[]; at: number | null; where: { file: string; line: number } | null } | null];
+  parting: [{ one: string; other: string; to: number; sources: [string, string][][] }, Parting | null];
   inputs: [{}, { inputs: Input[]; count: number }];
   visits: [{ generation?: number; from: number; to: number }, Visited | null];
-  span: [{ generation?: number; from: number; to: number }, Visited | null];
-  program: [{ generation?: number; from: number; to: number }, ProgramCounters | null];
+  calls: [{ generation?: number; request?: number; place: string; at: number }, Called | null];
+  ending: [{ generation?: number; request?: number; place: string; at: number; to: number; open: number }, { at: number | null } | null];
+  stopCalls: [{ place: string }, void];
+  frames: [{ generation?: number; from: number; to: number; width: number; rows: number }, Framed | null];
+  profile: [{ generation?: number; from: number; to: number }, Profiled | null];
   words: [{ from: number; length: number; of: number }, Bytes | null];
   changes: [{ generation?: number; from: number; to: number; size: number; now: number; isOn: boolean }, Changes | null];
 }
@@ -548,6 +778,9 @@ interface Elements {
   "image-address": HTMLInputElement;
   "image-registers": HTMLInputElement;
   kept: HTMLDetailsElement;
+  "project-name": HTMLInputElement;
+  board: HTMLDialogElement;
+  note: HTMLInputElement;
   run: HTMLButtonElement;
   step: HTMLButtonElement;
   continue: HTMLButtonElement;
@@ -612,4 +845,60 @@ interface Array<T> {
 
 interface Uint8Array {
   findLastIndex(test: (byte: number, at: number) => unknown): number;
+}
+
+// What is published, by the names of the events (host/events.js)
+
+interface Events {
+  // What the browser keeps is another; a tab is in sight; hits, breakpoints or watches are others.
+  kept: void;
+  tab: string;
+  forgot: void;
+  breaks: void;
+  watches: void;
+  // Notes are others; a run has ended.
+  pins: void;
+  ended: void;
+  // The user has the machine run or pause, or goes to another count: what was found is no longer said.
+  running: void;
+  looking: void;
+  // A moment is shown, with what is seen only where the cursor stays; or the machine as it is now.
+  moment: Moment;
+  settled: Moment;
+  now: Frame;
+  // What the past says between its answers.
+  searched: NonNullable<PastNews["searched"]>;
+  wrote: NonNullable<PastNews["lastWriter"]>;
+  why: NonNullable<PastNews["why"]>;
+  executed: NonNullable<PastNews["executed"]>;
+  counted: NonNullable<PastNews["counted"]>;
+  followed: NonNullable<PastNews["followed"]>;
+  traced: NonNullable<PastNews["traced"]>;
+}
+
+// What one panel asks of another (host/commands.js)
+
+interface Commands {
+  // Moves the cursor to a count, or shows the machine as it is now; a cursor that has not settled has more looks to come.
+  moveCursor(count: number, isSettled?: boolean): Promise<void>;
+  backToNow(isSettled?: boolean): Promise<void>;
+  // Runs or pauses the machine; a run may have a goal, and continue live from there.
+  setRun(isOn: boolean, how?: { fast?: boolean; goal?: number | null; then?: { fast: boolean } | null }): Promise<void>;
+  // Asks who drew the dot under the mouse.
+  askDot(event: PointerEvent): unknown;
+  // Opens an example with some members changed, and runs it.
+  openExample(name: string, changes?: {}): Promise<void>;
+  // Opens something in place of what is open, unless the user keeps that.
+  replaced<Name extends "openRecording" | "openSession" | "openImage">(name: string, ask: Name, given: Requests[Name][0]): Promise<Opened | null>;
+  // Shows the sources of a program in the tab, one of them in its field.
+  showSources(sources: import("./ui/source/sourceautosave.js").KeptPart[], more?: { file?: string; isEdited?: boolean }): void;
+  // Resumes an item, or a branch.
+  resumed(work: Work, id: number, branchesOf: (kept: Labels) => Branches | Promise<Branches>): Promise<Labels>;
+  // Shows a lesson beside the source that is open.
+  showLesson(lesson: import("./formats/project.js").Lesson): void;
+  // Opens a page that was exported; or shows several, which were handed in, on a board.
+  openPage(name: string, bytes: Bytes): Promise<void>;
+  showBoard(files: { name: string; bytes: Bytes }[]): Promise<void>;
+  // Shows a word of the code in the listing.
+  showWord(word: number): void;
 }

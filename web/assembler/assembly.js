@@ -1,12 +1,12 @@
 // @ts-check
 /* Assembles a source: lays its statements out in memory, gives its names their values, and encodes its words. Each thing that is wrong
- * is a problem of its own, so that one run finds all of them. It is the assembler of tools/galluspa/assembly.py; a test holds them equal. */
-import { addresses, most, registers as registerNames } from "../../tools/galluspa/assembler.json";
+ * is a problem of its own, so that one run finds all of them. It is the assembler of tools/galluspa/assembler/assembly.py; a test holds them equal. */
+import { addresses, most, registers as registerNames } from "../../tools/galluspa/formats/assembler.json";
 import { encoded, operandOf, registerOf, SPECIALS } from "./encoding.js";
 import { deeper, evaluate, valueOf } from "./expressions.js";
 import { advice, Wrong } from "./language.js";
 import { alikeOf, REGISTERS_ELSEWHERE } from "./others.js";
-import { columnOf, CONSTANT, INSTRUCTION, isAligned, isString, SETTINGS, sizeOf, statementOf } from "./statements.js";
+import { columnOf, CONSTANT, expectCommas, INSTRUCTION, isAligned, isString, SETTINGS, sizeOf, statementOf } from "./statements.js";
 
 /** @typedef {import("./tokens.js").Token} Token */
 /** @typedef {import("./statements.js").Statement} Statement */
@@ -20,12 +20,16 @@ import { columnOf, CONSTANT, INSTRUCTION, isAligned, isString, SETTINGS, sizeOf,
 export const MEMORY_BYTES = 1 << 20;
 const NARROW = 22, WIDE = 24;
 const BUILT_IN = new Map(Object.entries(addresses)), REGISTER_NAMES = new Map(Object.entries(registerNames));
-// A number that another assembler may read; and a line that stands for the lines of a file.
+// A number that another assembler may read.
 const HEXADECIMAL = /^[A-Fa-f][0-9A-Fa-f]*[Hh]$/;
-const INCLUDED = /^[ \t]*include[ \t]+"([^"\\]+)"[ \t]*(?:;.*)?$/i;
 
-/** A source that is assembled: its statements, its names, its memory, and what is wrong with it. */
+/** A program that is assembled: its statements, its names, its memory, and what is wrong with it. Its lines are counted from 1 over all its sources. */
 export class Assembly {
+  /** @param {import("./parts.js").SourceLine[]} places */
+  constructor(places) {
+    this.places = places;
+  }
+
   /** @type {Statement[]} */
   statements = [];
   /** @type {Problem[]} */
@@ -52,6 +56,14 @@ export class Assembly {
   /** @type {Set<string>} */
   open = new Set();
   isNarrow = false;
+
+  /** Returns a line as another one names it: with its file, if that differs.
+   * @param {number} line
+   * @param {number} near */
+  lineText(line, near) {
+    const { file, line: number } = this.places[line - 1];
+    return `line ${number}${file === this.places[near - 1].file ? "" : ` of ${file}`}`;
+  }
 
   /** Does something, and keeps what is wrong in a line as a problem.
    * @param {number} line
@@ -171,7 +183,7 @@ export class Assembly {
     if (registerOf(text) !== undefined || SPECIALS.has(upper) || isDevice)
       throw new Wrong(column, "taken", { name: text, what: isDevice ? "device" : "register" });
     if (text.endsWith("'")) throw new Wrong(column, "apostrophe", { name: text });
-    if (before !== undefined) throw new Wrong(column, "twice", { name: text, where: `line ${before}` });
+    if (before !== undefined) throw new Wrong(column, "twice", { name: text, where: this.lineText(before, line) });
     if (!this.spelled.has(upper)) this.spelled.set(upper, [this.lines.size, text]);
     this.lines.set(text, line);
   }
@@ -205,7 +217,7 @@ export class Assembly {
       const [before, after] = region.line < furthest.line ? [region, furthest] : [furthest, region], last = Math.min(region.end, furthest.end) - 1;
       if (region.start < furthest.end)
         this.keeping(after.line, () => {
-          throw new Wrong(after.column, "filled", { first: region.start, last, where: `line ${before.line}` });
+          throw new Wrong(after.column, "filled", { first: region.start, last, where: this.lineText(before.line, after.line) });
         });
       if (region.end > furthest.end) furthest = region;
     }
@@ -224,6 +236,7 @@ export class Assembly {
     for (const statement of this.statements) {
       const { does, here } = statement, isData = does === "word" || does === "byte" || does === "string";
       this.keeping(statement.line, () => {
+        if (!SETTINGS.has(does)) expectCommas(statement);
         if (does === INSTRUCTION) found.push([here, bytesOf(this.instruction(statement), 4)]);
         else if (isData) found.push([here, this.data(statement)]);
       });
@@ -278,14 +291,13 @@ export function only({ arguments: given, name }) {
   return given[0];
 }
 
-/** Returns a source, assembled; it has a memory only if there are no problems.
- * @param {string} source */
-export function assembled(source) {
-  const made = new Assembly();
-  source.split("\n").forEach((text, at) => {
-    const line = text.replace(/\r+$/, ""), included = INCLUDED.exec(line);
-    if (included) made.problems.push({ line: at + 1, column: 1, text: `the page includes no file: put the lines of ${included[1]} here` });
-    else made.keeping(at + 1, () => made.statements.push(statementOf(at + 1, line)));
+/** Returns a program, assembled; it has a memory only if there are no problems.
+ * @param {import("./parts.js").SourceLine[]} lines */
+export function assembled(lines) {
+  const made = new Assembly(lines);
+  lines.forEach(({ text, mistake }, at) => {
+    if (mistake) made.problems.push({ line: at + 1, column: 1, text: mistake });
+    else made.keeping(at + 1, () => made.statements.push(statementOf(at + 1, text)));
   });
   for (const statement of made.statements) made.keeping(statement.line, () => made.layOut(statement));
   made.setLabels();

@@ -1,8 +1,8 @@
 // @ts-check
 /* Encodes an instruction from its mnemonic and its operands, in the notation that instructions.js writes. */
-import { conditions, memory, operations, specials } from "../../tools/galluspa/assembler.json";
+import { conditions, memory, operations, specials } from "../../tools/galluspa/formats/assembler.json";
 import { divided, evaluate, valueOf } from "./expressions.js";
-import { advice, Wrong } from "./language.js";
+import { advice, cut, Wrong } from "./language.js";
 import { NAME } from "./tokens.js";
 
 /** @typedef {import("./tokens.js").Token} Token */
@@ -14,7 +14,7 @@ import { NAME } from "./tokens.js";
 const MOV = 0, U = 1 << 29, V = 1 << 28, LINK = V;
 const MEMORY = new Map(Object.entries(memory));
 /** @type {Map<string, [number, number]>} */
-const BRANCHES = new Map(["", "L"].flatMap((link) => conditions.map((name, at) => [`B${link}${name}`, [at, link ? LINK : 0]])));
+export const BRANCHES = new Map(["", "L"].flatMap((link) => conditions.map((name, at) => [`B${link}${name}`, [at, link ? LINK : 0]])));
 // The machine takes 22 bits of an offset. An offset below 0 is written with 24, as Project Oberon's compiler writes it.
 const WIDENED = 3 << 22;
 export const SPECIALS = new Map(specials.map((name, at) => [name, at * V]));
@@ -55,7 +55,7 @@ export function encoded(name, operands, here, isNarrow) {
   return (head === undefined ? operationWord(name, operands) : memoryWord(name, operands, head)) >>> 0;
 }
 
-/** Sees that there are as many operands as in a form, which the message shows.
+/** Checks the number of operands against a form, which the message shows.
  * @param {Token} name
  * @param {Operand[]} operands
  * @param {string} form */
@@ -116,7 +116,7 @@ function halves(op, a, { text, value }) {
   if (number < -(1n << 31n) || number >= 1n << 32n) return "";
   if (op !== MOV) return advice("intoRegister");
   const isName = /^[A-Za-z_][A-Za-z0-9_]*$/.test(text.replaceAll(".", "_")) && number >= 0n;
-  const [upper, lower] = isName ? [`${text} / 10000H`, `${text} % 10000H`] : divided(BigInt.asUintN(32, number), 0x10000n);
+  const [upper, lower] = isName ? [`${cut(text)} / 10000H`, `${cut(text)} % 10000H`] : divided(BigInt.asUintN(32, number), 0x10000n);
   return advice("halves", { a, upper, lower });
 }
 

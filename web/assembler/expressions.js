@@ -1,13 +1,13 @@
 // @ts-check
 /* Evaluates the expressions of a source: numbers, labels and constants with + - * / % and parentheses. */
-import { most } from "../../tools/galluspa/assembler.json";
+import { most } from "../../tools/galluspa/formats/assembler.json";
 import { advice, Wrong } from "./language.js";
 import { isMark, MARK, NAME, NUMBER, STRING } from "./tokens.js";
 
 const LARGEST = 1n << 64n;
 
 /** @typedef {import("./tokens.js").Token} Token */
-/** A number; a place, if it is the byte address of a label, or so many bytes from one.
+/** A number; a place, if it is the byte address of a label, or at a distance from one.
  * @typedef {{ number: bigint, isPlace: boolean }} Value */
 /** What a name stands for, given how deep the expression is that it is in.
  * @typedef {(token: Token, depth: number) => Value} Names */

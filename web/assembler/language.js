@@ -1,9 +1,14 @@
 // @ts-check
 /* The assembler's language as the tools and the page have it in common: names, numbers, and the texts of mistakes. */
-import { advice as advices, mistakes, notes } from "../../tools/galluspa/assembler.json";
+import { advice as advices, mistakes, most, notes } from "../../tools/galluspa/formats/assembler.json";
 
 /** What is put into a text. A number may be written with commas, or in hexadecimal, as the text says.
  * @typedef {{ [name: string]: string | number | bigint }} Given */
+
+// What a message quotes of a source. Of a longer text it quotes the beginning.
+const QUOTED = ["text", "name", "meant"];
+/** @param {string} text */
+export const cut = (text) => (text.length > most.shown ? `${text.slice(0, most.shown)}..` : text);
 
 /** Writes a number with commas between its thousands.
  * @param {string | number | bigint} number */
@@ -22,9 +27,9 @@ function written(value, form) {
  * @param {string} text
  * @param {Given} given
  */
-const filled = (text, given) => text.replace(/\{(\w+)(:[,X])?\}/g, (_, name, form) => written(given[name], form));
+const filled = (text, given) => text.replace(/\{(\w+)(:[,X])?\}/g, (_, name, form) => (QUOTED.includes(name) ? cut(`${given[name]}`) : written(given[name], form)));
 
-/** Returns what a text of a mistake goes on with: what may be meant, or what to write.
+/** Returns the end of the text of a mistake: what may be meant, or what to write.
  * @param {keyof typeof advices} name
  * @param {Given} given */
 export const advice = (name, given = {}) => filled(advices[name], given);

@@ -1,6 +1,6 @@
 // @ts-check
 /* What other assemblers write, and what is written here instead, for messages; and names that are alike. */
-import { elsewhere, most } from "../../tools/galluspa/assembler.json";
+import { elsewhere, most } from "../../tools/galluspa/formats/assembler.json";
 
 const HERE = new Map(elsewhere.rows.flatMap(([names, here]) => names.split(" ").map((name) => /** @type {[string, string]} */ ([name, here]))));
 // An operation with a condition, which may also be one that sets flags; and one with the letter of those that set flags.

@@ -1,16 +1,17 @@
 // @ts-check
 /* Makes the session of an assembled source: registers, rate, inputs, and the counts of its checkpoints. */
-import { ends } from "../../tools/galluspa/assembler.json";
+import { ends } from "../../tools/galluspa/formats/assembler.json";
 import { MEMORY_BYTES, only } from "./assembly.js";
 import { note, Wrong } from "./language.js";
-import { columnOf, INSTRUCTION, isString, SETTINGS, textOf } from "./statements.js";
+import { CHECKPOINT_LIMIT, INPUT_LIMIT, MOST_COUNT } from "../formats/limits.js";
+import { columnOf, expectCommas, INSTRUCTION, isString, SETTINGS, textOf } from "./statements.js";
 import { isMark } from "./tokens.js";
 
 /** @typedef {import("./assembly.js").Assembly} Assembly */
 /** @typedef {import("./statements.js").Statement} Statement */
 /** @typedef {import("./statements.js").Argument} Argument */
 
-const WORD = 0xffffffff, COUNTS = 2 ** 40, MOST_INPUTS = 1000000, MOST_CHECKPOINTS = 4096, MOUSE = 0x073ff3ff;
+const WORD = 0xffffffff, MOUSE = 0x073ff3ff;
 const FLAGS = "NZCV";
 // The longest run that is tried for its end, if the source does not say it.
 const MOST_STEPS = 2 ** 30;
@@ -94,7 +95,7 @@ export class Settings {
   input(statement) {
     if (statement.arguments.length !== 3) throw new Wrong(statement.name.column, "input");
     const [count, kind, value] = statement.arguments, { inputs } = this.session, least = inputs.length ? inputs[inputs.length - 1][0] : 0;
-    const at = this.bounded(statement, count, least, COUNTS, "the count"), name = textOf(kind).toLowerCase(), most = MOST.get(name);
+    const at = this.bounded(statement, count, least, MOST_COUNT, "the count"), name = textOf(kind).toLowerCase(), most = MOST.get(name);
     this.inputs.push([at, statement]);
     if (most === undefined) throw new Wrong(columnOf(kind), "kind", { name: textOf(kind), names: [...MOST.keys()].join(", ") });
     if (isString(value) && (name === "key" || name === "serial")) {
@@ -109,7 +110,7 @@ export class Settings {
   /** @param {Statement} statement */
   checkpoints(statement) {
     if (!statement.arguments.length) throw new Wrong(statement.name.column, "checkpoints");
-    for (const argument of statement.arguments) this.counts.add(this.bounded(statement, argument, 1, COUNTS, "the count"));
+    for (const argument of statement.arguments) this.counts.add(this.bounded(statement, argument, 1, MOST_COUNT, "the count"));
   }
 
   /** @param {Statement} statement */
@@ -117,7 +118,7 @@ export class Settings {
     once(this.every, statement);
     const { length } = statement.arguments;
     if (length < 1 || length > 2) throw new Wrong(statement.name.column, "every");
-    const [step, last = 0] = statement.arguments.map((one) => this.bounded(statement, one, 1, COUNTS, "the count"));
+    const [step, last = 0] = statement.arguments.map((one) => this.bounded(statement, one, 1, MOST_COUNT, "the count"));
     Object.assign(this, { every: statement, step, last });
   }
 
@@ -128,7 +129,7 @@ export class Settings {
     const { length } = statement.arguments, end = length ? textOf(statement.arguments[0]).toLowerCase() : "";
     if (length < 1 || length > 2 || !ends.includes(end)) throw new Wrong(statement.name.column, "until");
     this.end = end;
-    for (const most of statement.arguments.slice(1)) this.most = this.bounded(statement, most, 1, COUNTS, "the count");
+    for (const most of statement.arguments.slice(1)) this.most = this.bounded(statement, most, 1, MOST_COUNT, "the count");
   }
 
   /** Finds what is wrong with the settings as a whole. */
@@ -147,9 +148,9 @@ export class Settings {
         throw new Wrong(every.name.column, "everyEnd");
       });
     const input = firstOf("input");
-    if (input && session.inputs.length > MOST_INPUTS)
+    if (input && session.inputs.length > INPUT_LIMIT)
       assembly.keeping(input.line, () => {
-        throw new Wrong(input.name.column, "inputs", { number: session.inputs.length, most: MOST_INPUTS });
+        throw new Wrong(input.name.column, "inputs", { number: session.inputs.length, most: INPUT_LIMIT });
       });
   }
 
@@ -158,11 +159,11 @@ export class Settings {
   setCheckpoints(end) {
     const { assembly, every, step, session } = this, counts = new Set(end ? [...this.counts, end] : this.counts), last = this.last || end || 0;
     const number = every ? Math.floor(last / step) : 0;
-    for (let count = step; every && count <= Math.min(last, step * MOST_CHECKPOINTS); count += step) counts.add(count);
-    if (Math.max(number, counts.size) > MOST_CHECKPOINTS) {
+    for (let count = step; every && count <= Math.min(last, step * CHECKPOINT_LIMIT); count += step) counts.add(count);
+    if (Math.max(number, counts.size) > CHECKPOINT_LIMIT) {
       const statement = /** @type {Statement} */ (every ?? assembly.statements.find(({ does }) => does === "checkpoints"));
       assembly.keeping(statement.line, () => {
-        throw new Wrong(statement.name.column, "tooMany", { most: MOST_CHECKPOINTS });
+        throw new Wrong(statement.name.column, "tooMany", { most: CHECKPOINT_LIMIT });
       });
     }
     session.checkpoints = [...counts].sort((one, other) => one - other);
@@ -198,7 +199,7 @@ export function settingsOf(assembly) {
   const made = new Settings(assembly), first = assembly.statements.find(({ does }) => does === INSTRUCTION);
   made.session.pc = Math.floor((first?.here ?? 0) / 4);
   for (const statement of assembly.statements)
-    if (SETTINGS.has(statement.does)) assembly.keeping(statement.line, () => SETTERS[statement.does](made, statement));
+    if (SETTINGS.has(statement.does)) assembly.keeping(statement.line, () => (expectCommas(statement), SETTERS[statement.does](made, statement)));
   made.check();
   return made;
 }

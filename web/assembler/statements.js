@@ -1,10 +1,10 @@
 // @ts-check
 /* Takes a source apart: the statement of each line, with its labels and its arguments. */
-import { directives, settings } from "../../tools/galluspa/assembler.json";
-import { MNEMONICS } from "./encoding.js";
-import { advice, Wrong } from "./language.js";
+import { directives, settings, single } from "../../tools/galluspa/formats/assembler.json";
+import { BRANCHES, MNEMONICS } from "./encoding.js";
+import { advice, cut, Wrong } from "./language.js";
 import { areAlike, hereOf } from "./others.js";
-import { isMark, NAME, STRING, tokensOf } from "./tokens.js";
+import { isMark, MARK, NAME, STRING, tokensOf } from "./tokens.js";
 
 /** @typedef {import("./tokens.js").Token} Token */
 /** The tokens between two commas, and the column of their end.
@@ -16,6 +16,8 @@ import { isMark, NAME, STRING, tokensOf } from "./tokens.js";
 export const CONSTANT = "=", INSTRUCTION = "instruction";
 export const SETTINGS = new Set(settings);
 const DIRECTIVES = new Set([...directives, ...settings]);
+// What has one operand at most.
+const SINGLE = new Set([...BRANCHES.keys(), ...single.map((name) => name.toUpperCase())]);
 // What a statement may be meant to begin with, in the order in which it is suggested.
 const FIRST_WORDS = [...[...MNEMONICS].sort(), ...[...DIRECTIVES].sort()];
 const NAMELESS = { kind: NAME, text: "", column: 1, number: 0n, content: new Uint8Array() };
@@ -39,6 +41,21 @@ export function sizeOf({ does, arguments: given }) {
   if (does !== "byte" && does !== "string") return 0;
   return given.reduce((size, one) => size + (isString(one) ? one.tokens[0].content.length : 1), does === "string" ? 1 : 0);
 }
+
+/** Refuses two operands side by side where a statement may have several: there is a comma between them.
+ * @param {Statement} statement */
+export function expectCommas({ does, name, arguments: given }) {
+  if (does === CONSTANT || SINGLE.has(name.text.toUpperCase())) return;
+  for (const { tokens } of given) {
+    const after = tokens.find((token, at) => at > 0 && isOperand(tokens[at - 1], ")") && isOperand(token, "("));
+    if (after) throw new Wrong(after.column, "comma", { text: after.text });
+  }
+}
+
+/** Whether an operand may end or begin with a token; the parenthesis is the mark that does, too.
+ * @param {Token} token
+ * @param {string} parenthesis */
+const isOperand = ({ kind, text }, parenthesis) => kind !== MARK || text === "$" || text === parenthesis;
 
 /** Returns the statement of a line.
  * @param {number} line
@@ -66,7 +83,7 @@ function whatIs({ text, column }, rest) {
   const upper = text.toUpperCase(), lower = text.toLowerCase();
   if (MNEMONICS.has(upper)) return INSTRUCTION;
   if (DIRECTIVES.has(lower)) return lower;
-  const here = hereOf(upper) || (rest[0]?.text.toUpperCase() === "EQU" ? `${text} = VALUE` : "");
+  const here = hereOf(upper) || (rest[0]?.text.toUpperCase() === "EQU" ? `${cut(text)} = VALUE` : "");
   const meant = !here && rest.length ? FIRST_WORDS.find((other) => areAlike(text, other)) : undefined;
   const said = here ? advice("elsewhere", { here }) : meant ? advice("meant", { meant }) : advice("label");
   throw new Wrong(column, "statement", { name: text, advice: said });

@@ -1,6 +1,6 @@
 // @ts-check
 /* Takes a line of a source apart: names, numbers, strings and marks, each with its column. */
-import { escapes, most } from "../../tools/galluspa/assembler.json";
+import { escapes, most } from "../../tools/galluspa/formats/assembler.json";
 import { Wrong } from "./language.js";
 import { SIGNS } from "./others.js";
 

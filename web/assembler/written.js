@@ -75,24 +75,26 @@ export function symbolsOf(assembly) {
   return [...labels, ...lawful.map(({ name, value }) => ({ address: Number(BigInt.asUintN(32, value)), size: 0, kind: "a", name, line: lineOf(name) }))];
 }
 
-/** Returns the byte address and the line of each instruction.
+/** Returns the byte address of each instruction, its line and its file.
  * @param {Assembly} assembly
- * @returns {[number, number][]} */
-export function linesOf({ statements }) {
-  return statements.filter(({ does }) => does === INSTRUCTION).map(({ here, line }) => [here, line]);
+ * @returns {[number, number, string][]} */
+export function linesOf({ statements, places }) {
+  return statements.filter(({ does }) => does === INSTRUCTION).map(({ here, line }) => [here, places[line - 1].line, places[line - 1].file]);
 }
 
-/** Returns the symbol file of a source, whose file has a name.
- * @param {Assembly} assembly
- * @param {string} file */
-export function writtenSymbols(assembly, file) {
-  const name = plainFile(file), symbols = symbolsOf(assembly).filter((symbol) => symbol.name.length <= LONGEST_NAME);
+/** Returns the symbol file of a program.
+ * @param {Assembly} assembly */
+export function writtenSymbols(assembly) {
+  const symbols = symbolsOf(assembly).filter((symbol) => symbol.name.length <= LONGEST_NAME), names = new Map(assembly.places.map(({ file }) => [file, ""]));
+  for (const file of names.keys()) names.set(file, plainFile(file));
   /** @param {number} number */
   const hex = (number) => number.toString(16).toUpperCase().padStart(8, "0");
   symbols.sort((one, other) => one.address - other.address || one.size - other.size || order(one.kind, other.kind) || order(one.name, other.name));
-  const lines = linesOf(assembly).sort(([one, oneLine], [other, otherLine]) => one - other || oneLine - otherLine);
-  const written = symbols.map(({ address, size, kind, name: own, line }) => `${hex(address)}${size ? ` ${hex(size)}` : ""} ${kind} ${own}\t${name}:${line}\n`);
-  return [...written, ...lines.map(([address, line]) => `${hex(address)} l ${name}:${line}\n`)].join("");
+  /** @param {number} line */
+  const placeOf = (line) => `${names.get(assembly.places[line - 1].file)}:${assembly.places[line - 1].line}`;
+  const lines = linesOf(assembly).sort(([one, oneLine, oneFile], [other, otherLine, otherFile]) => one - other || order(oneFile, otherFile) || oneLine - otherLine);
+  const written = symbols.map(({ address, size, kind, name, line }) => `${hex(address)}${size ? ` ${hex(size)}` : ""} ${kind} ${name}\t${placeOf(line)}\n`);
+  return [...written, ...lines.map(([address, line, file]) => `${hex(address)} l ${names.get(file)}:${line}\n`)].join("");
 }
 
 /**

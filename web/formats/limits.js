@@ -1,0 +1,7 @@
+// @ts-check
+/* The limits of recordings and sessions, which docs/formats.md lists: the last count; bytes of a file; inputs, checkpoints besides the initial
+ * state, pages of all memories, and bytes sent. */
+
+export const MOST_COUNT = 2 ** 40;
+export const LONGEST_RECORDING = 118310056, LONGEST_SESSION = 67108864;
+export const INPUT_LIMIT = 1000000, CHECKPOINT_LIMIT = 4096, POOL_LIMIT = 65536, SENT_LIMIT = 1 << 20;

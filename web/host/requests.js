@@ -1,0 +1,91 @@
+// @ts-check
+/* Requests to a worker (worker.js). Each has an answer of its own, or a refusal of its own. */
+import { el } from "./elements.js";
+import { begunWorker } from "./packed.js";
+
+// Where the workers have their script from, what kind of script it is, a worker that runs it already, and how many requests were made.
+const scripts = { worker: "", type: /** @type {WorkerType} */ ("classic"), begun: /** @type {Begun | null} */ (null), asked: 0 };
+
+/** Says where the workers have their script from.
+ * @param {string} worker
+ * @param {WorkerType} type */
+function setWorkerScript(worker, type = "classic") {
+  Object.assign(scripts, { worker, type });
+}
+
+/** Takes the script of the workers from the page that contains it. */
+export async function placeWorker() {
+  const { source } = el("worker").dataset;
+  if (source) return setWorkerScript(source, "module");
+  scripts.begun = await begunWorker("worker");
+  setWorkerScript(scripts.begun.address);
+}
+
+/** Returns a worker: the one that was begun, once, or a new one. */
+function takeWorker() {
+  const { begun, worker, type } = scripts;
+  scripts.begun = null;
+  return begun?.worker ?? new Worker(worker, { type });
+}
+
+/** @typedef {import("./packed.js").Begun} Begun */
+
+/** Bad input, or a request that cannot be met. Its message is one line for the user. */
+export class Refusal extends Error {}
+
+/** A worker that answers requests. Messages that answer no request go to `news`. */
+export class Helper {
+  /** @type {Map<number, { resolve: (answer: any) => void, reject: (error: Refusal) => void }>} */
+  waits = new Map();
+  broken = "";
+
+  /** The worker is made at once, and asked to start once the module is there. Nothing else is asked before.
+   * @param {WebAssembly.Module | Promise<WebAssembly.Module>} module
+   * @param {(news: any) => void} news */
+  constructor(module, news) {
+    this.worker = takeWorker();
+    this.worker.onmessage = ({ data }) => (data.id === undefined ? news(data) : this.settle(data));
+    this.worker.onerror = (event) => this.fail(event);
+    this.worker.onmessageerror = (event) => this.fail(event);
+    this.ready = module instanceof Promise ? module.then((it) => this.ask("start", { module: it })) : this.ask("start", { module });
+    // A worker that does not start rejects its requests, too: callers see that error.
+    this.ready.catch(() => {});
+  }
+
+  /** Asks for something. A request that is refused, or that a broken worker cannot answer, is rejected with a refusal.
+   * @template {RequestName} Name
+   * @param {Name} ask
+   * @param {Requests[Name][0]} given
+   * @returns {Promise<Requests[Name][1]>} */
+  ask(ask, given = {}) {
+    if (this.broken) return Promise.reject(new Refusal(this.broken));
+    const id = ++scripts.asked;
+    const answer = new Promise((resolve, reject) => this.waits.set(id, { resolve, reject }));
+    this.worker.postMessage({ id, ask, ...given });
+    return answer;
+  }
+
+  /** @param {{ id: number, answer?: any } & Failure} data */
+  settle(data) {
+    const wait = this.waits.get(data.id);
+    this.waits.delete(data.id);
+    if ("answer" in data) wait?.resolve(data.answer);
+    else wait?.reject(new Refusal(data.refused ?? data.broken));
+  }
+
+  /** Rejects what waits, and all that is asked later: the worker is broken.
+   * @param {ErrorEvent | MessageEvent} event */
+  fail(event) {
+    event.preventDefault();
+    this.broken = `the worker failed: ${event instanceof ErrorEvent ? event.message : "a message could not be read"}`;
+    for (const { reject } of this.waits.values()) reject(new Refusal(this.broken));
+    this.waits.clear();
+  }
+
+  /** Ends the worker. Requests without an answer get undefined. */
+  end() {
+    this.worker.terminate();
+    for (const { resolve } of this.waits.values()) resolve(undefined);
+    this.waits.clear();
+  }
+}

@@ -1,0 +1,57 @@
+// @ts-check
+/* Saves the session or the recording that was made so far. */
+import { app, savedName } from "../../host/app.js";
+import { download, notice, writeWhole } from "../../host/elements.js";
+import { cursor, isPast, shownCount } from "../../host/shown.js";
+import { runningProgram } from "../source/sourceprogram.js";
+import { grouped } from "../../formats/texts.js";
+import { noteChecked } from "../timeline/timeline.js";
+import { verdicts } from "../screen/verdicts.js";
+
+/** Pauses the machine, and returns its session or its recording.
+ * @param {"session" | "recording"} ask */
+async function paused(ask) {
+  await app.live.ask("setRun", { on: false });
+  return app.live.ask(ask);
+}
+
+export async function saveSession() {
+  notice();
+  const made = await paused("session");
+  download(savedName("json"), made.bytes, "application/json");
+  sayIfCut("session", made);
+}
+
+/** Says where what was saved ends, if that is before the machine's count.
+ * @param {string} what
+ * @param {Made} made */
+function sayIfCut(what, { isWhole, count, full = "the recording has reached its limit of checkpoints" }) {
+  if (!isWhole) notice(`The ${what} ends with its checkpoint at ${grouped(count)}: ${full}.`);
+}
+
+/** Saves the recording, and checks it to show its verdict line. In the past it is all of it, which the page says. */
+export async function saveRecording() {
+  notice();
+  const made = await paused("recording");
+  if (isPast()) notice(`This is all of the recording, up to ${grouped(made.count)}. "Save up to the cursor" ends it at ${grouped(shownCount())}.`);
+  sayIfCut("recording", made);
+  await saved(made);
+}
+
+/** Saves the recording up to the count that is looked at. */
+export async function saveToCursor() {
+  notice();
+  const { at } = cursor, moment = at === null ? null : await app.past.moment(at);
+  if (moment) await saved(await app.live.ask("recordingTo", moment));
+}
+
+/** @param {Made} made */
+async function saved(made) {
+  const name = savedName("orsr");
+  download(name, made.bytes, "application/octet-stream");
+  const begun = performance.now(), answer = await verdicts.own.check(name, made.bytes);
+  if (runningProgram()) notice("A recording has no source: Export, in the list of what is saved, writes both in one file.");
+  if (!answer) return;
+  if (answer.status === 0) noteChecked(made.count);
+  writeWhole("status", `${grouped(made.bytes.length)} bytes, checked in ${((performance.now() - begun) / 1000).toFixed(1)} s`);
+}

@@ -1,0 +1,29 @@
+// @ts-check
+/* The card beside the screen, which has an answer, or the end of a game. */
+import { button, el, isNarrow, made } from "../../host/elements.js";
+
+// What is done when the card is closed.
+let whenClosed = () => {};
+
+/** Shows a card. `closed` is called when it is closed, or another one takes its place.
+ * @param {string} title
+ * @param {(Node | string)[]} parts
+ * @param {() => void} closed */
+export function showCard(title, parts, closed = () => {}) {
+  if (closed !== whenClosed) whenClosed();
+  whenClosed = closed;
+  const close = button("×", async () => closeCard()), heading = made("h2", title);
+  close.className = "close";
+  close.setAttribute("aria-label", "Close");
+  el("card").replaceChildren(heading, close, ...parts);
+  if (!el("card").hidden) return;
+  el("card").hidden = false;
+  if (!isNarrow()) el("card").scrollIntoView({ block: "nearest" });
+}
+
+/** Closes the card. */
+export function closeCard() {
+  whenClosed();
+  whenClosed = () => {};
+  el("card").hidden = true;
+}

@@ -1,0 +1,109 @@
+// @ts-check
+/* Two runs with the same inputs: that of the program before, which two more workers run once more, and that of the program which is open. The page
+ * names the first line that does something else in the one than in the other, and shows either where both are at the same line. */
+import { app } from "../../host/app.js";
+import { assembler } from "./desk.js";
+import { button, el, notice, paragraph, set } from "../../host/elements.js";
+import { noteHit } from "../timeline/hits.js";
+import { backToNow, moveCursor, showOther } from "../timeline/cursormoves.js";
+import { Past } from "../../host/pastclient.js";
+import { Helper } from "../../host/requests.js";
+import { isPast, secondsOf, shownCount } from "../../host/shown.js";
+import { runningProgram } from "./sourceprogram.js";
+import { grouped } from "../../formats/texts.js";
+import { drawLanes } from "../timeline/drawing.js";
+
+// The run before: the workers that have it, up to which count it went, the machine beside which it is, whether it is shown; and pairs of counts, its own and those
+// of the run that is open, each where the distance of the two changes.
+/** @type {{ live: Helper, past: Past, end: number, generation: number, isShown: boolean, shifts: [number, number][] } | null} */
+let otherRun = null;
+
+const isBeside = () => otherRun !== null && otherRun.generation === app.work.generation;
+
+/** Forgets the run before, and ends its workers. */
+export function forgetOther() {
+  if (otherRun) for (const worker of [otherRun.live, otherRun.past.helper]) worker.end();
+  otherRun = null;
+  el("source-parts").replaceChildren();
+  set("other-run", { hidden: true });
+}
+
+/** Runs the previous program again beside the open one, up to a count, and says which line does something else.
+ * @param {import("./sourceprogram.js").Running} before
+ * @param {import("./sourceprogram.js").Running} now
+ * @param {number} end */
+export async function compareRuns(before, now, end) {
+  forgetOther();
+  const live = new Helper(app.module, () => {}), past = new Past(app.module, () => {}), { generation } = app.work;
+  past.connect(live);
+  otherRun = { live, past, end, generation, isShown: false, shifts: [] };
+  const { generation: number } = await live.ask("openSession", { bytes: new TextEncoder().encode(before.session) });
+  past.begin(number);
+  set("other-run", { hidden: false });
+  await live.ask("setRun", { on: true, fast: true, goal: end, seconds: 0 });
+  const found = await assembler().ask("parting", { one: before.session, other: now.session, to: end, sources: [before, now].map(sourcesOf) });
+  if (!otherRun || !isBeside() || !found) return;
+  otherRun.shifts = found.lines?.shifts ?? [];
+  showParting(found);
+}
+
+/** @param {import("./sourceprogram.js").Running} running
+ * @returns {[string, string][]} */
+const sourcesOf = ({ parts }) => [...parts].map(([file, { source }]) => [file, source.join("\n")]);
+
+/** @param {Parting} found */
+function showParting({ at, upTo, lines }) {
+  if (at === null || !lines) return el("source-parts").replaceChildren(paragraph(`The two runs are the same up to ${grouped(upTo)}.`, "hint"));
+  const { first, upTo: [before, now] } = lines;
+  if (!first) return el("source-parts").replaceChildren(paragraph(`The lines that both sources have do the same up to ${grouped(now)}; in the previous run that is ${grouped(before)}.`, "hint"));
+  const after = first.counts[1] + (first.did ? 1 : 0);
+  noteHit(after, "the two runs differ");
+  drawLanes();
+  const line = paragraph(`${differenceText(first)} `, "hint");
+  line.append(button("Jump", () => moveCursor(after)), " ", button("Previous run", toggleOther));
+  el("source-parts").replaceChildren(line);
+}
+
+/** @param {NonNullable<NonNullable<Parting["lines"]>["first"]>} first */
+function differenceText({ place, counts, did, goes }) {
+  const [before, now] = did ?? goes.map((to) => (to ? `goes to ${lineText(to)}` : "stops"));
+  const where = did && place ? `First difference at ${lineText(place)}` : place ? `First difference after ${lineText(place)}` : "First difference at the beginning";
+  return `${where}: ${before} in the previous run, at ${grouped(counts[0])}; ${now} in this one, at ${grouped(counts[1])}, ${secondsOf(counts[1])}.`;
+}
+
+/** @param {LinePlace} place */
+const lineText = ({ file, line }) => `line ${line}${runningProgram()?.parts.size === 1 ? "" : ` of ${file}`}`;
+
+/** Returns the count of the run before at which that is at the same line as the one that is open is at a count.
+ * @param {number} at */
+function otherCount(at) {
+  const [before, now] = otherRun?.shifts.findLast(([, count]) => count <= at) ?? [0, 0];
+  return at - now + before;
+}
+
+/** Shows the run before at the count that is looked at, or the one that is open again. */
+export async function toggleOther() {
+  if (!otherRun || !isBeside()) return notice("There is no other run: Run with the same inputs makes two.");
+  if (otherRun.isShown) return endOther();
+  const at = shownCount(), before = otherCount(at), { past } = otherRun;
+  if (before > otherRun.end) return notice(`The previous run ended at ${grouped(otherRun.end)}.`);
+  const moment = await past.peek(before);
+  if (!moment || at !== shownCount() || !isBeside()) return;
+  otherRun.isShown = true;
+  set("other-run", { ariaPressed: "true" });
+  showOther(moment);
+}
+
+/** Shows the run that is open again. */
+async function endOther() {
+  if (otherRun) otherRun.isShown = false;
+  set("other-run", { ariaPressed: "false" });
+  await (isPast() ? moveCursor(shownCount()) : backToNow());
+}
+
+/** A look at another count shows the open run. */
+export function leaveOther() {
+  if (!otherRun?.isShown) return;
+  otherRun.isShown = false;
+  set("other-run", { ariaPressed: "false" });
+}

@@ -1,0 +1,37 @@
+// @ts-check
+/* The notes that are pinned to counts: their list, and how one is written. The lane has them, too. */
+import { app } from "../../host/app.js";
+import { button, el, made, notice, on } from "../../host/elements.js";
+import { moveCursor } from "./cursormoves.js";
+import { pin, pins } from "../../host/pins.js";
+import { secondsOf, shownCount } from "../../host/shown.js";
+import { grouped } from "../../formats/texts.js";
+import { drawLanes } from "./drawing.js";
+
+/** Shows the notes, each with a button that goes to its count. */
+export function showPins() {
+  el("notes").replaceChildren(...[...pins].map(([count, text]) => noteRow(count, text)));
+  if (app.latest) drawLanes();
+}
+
+/** @param {number} count
+ * @param {string} text */
+function noteRow(count, text) {
+  const row = made("li", ""), drop = button("×", () => pin(count, ""));
+  drop.setAttribute("aria-label", `Delete the note at ${grouped(count)}`);
+  row.append(button(`${grouped(count)} · ${secondsOf(count)}`, () => moveCursor(count)), " ", made("bdi", text), " ", drop);
+  return row;
+}
+
+/** Pins what was written to the count that is looked at.
+ * @param {Event} event */
+function pinNote(event) {
+  event.preventDefault();
+  notice();
+  if (!app.work.generation) return notice("There is no run yet to whose counts a note could be pinned.");
+  const text = el("note").value.trim();
+  if (text) pin(shownCount(), text);
+  el("note").value = "";
+}
+
+export const listenToPins = () => on("note-form", "submit", pinNote);
