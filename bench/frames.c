@@ -1,4 +1,4 @@
-/* frames FILE FRAMES STEPS: prints the microseconds that galluspa_advance takes for a frame of so many steps, from the initial state of a
+/* frames FILE FRAMES STEPS: prints the microseconds that galluspa_advance takes for a frame of STEPS steps, from the initial state of a
  * recording and without its inputs: the least, and the mean. With 0 steps, that is what a call takes to start a machine and to end it.
  * By the processor's time. */
 #include "library.h"

@@ -8,11 +8,7 @@
 #include <time.h>
 
 enum {
-    POOL = 65536,
-    EVENTS = 1000000,
-    CHECKPOINTS = 4097,
-    OUTPUT = 1048576,
-    SENT = OUTPUT / (CHECKPOINTS - 1), /* by each checkpoint but the first */
+    SENT = MOST_SENT / (MOST_CHECKPOINTS - 1), /* by each checkpoint but the first */
     TURNS = 5
 };
 
@@ -48,23 +44,23 @@ static void any_checkpoint(Checkpoint *c, int version, int k, const uint32_t *be
     parts[RATE] = 1000;
     if (version == 2) parts[PHASE] = any() % 1000;
     for (uint32_t p = 0; p < PAGES; p++)
-        do c->table[p] = any() % (POOL + 1);
+        do c->table[p] = any() % (MOST_PAGES + 1);
         while (version == 2 && c->table[p] == before[p]);
 }
 
 static void fill(uint8_t *text, int version, size_t length) {
     static Checkpoint before, now;
-    uint8_t *to = write_header(text, (uint32_t)version, POOL, EVENTS, CHECKPOINTS);
-    for (int i = 0; i < PAGE * POOL; i++) to = write_number(to, any(), 4);
-    for (int i = 0; i < EVENTS; i++) {
+    uint8_t *to = write_header(text, (uint32_t)version, MOST_PAGES, MOST_EVENTS, MOST_CHECKPOINTS);
+    for (int i = 0; i < PAGE * MOST_PAGES; i++) to = write_number(to, any(), 4);
+    for (int i = 0; i < MOST_EVENTS; i++) {
         Event event = any_event(4096 * (uint64_t)i);
         to = write_event(to, &event);
     }
-    for (int k = 0; k < CHECKPOINTS; k++, before = now) {
+    for (int k = 0; k < MOST_CHECKPOINTS; k++, before = now) {
         any_checkpoint(&now, version, k, before.table);
         to = write_checkpoint(to, (uint32_t)version, &now, before.table);
     }
-    for (int i = 0; i < OUTPUT; i++) to = write_number(to, any(), 1);
+    for (int i = 0; i < MOST_SENT; i++) to = write_number(to, any(), 1);
     if (to != text + length) abort();
 }
 
@@ -83,7 +79,7 @@ static double pass(const uint8_t *text, size_t length) {
         sum += word;
     }
     double took = now() - from;
-    if (sum == 1) putchar(' '); /* the sum is wanted, so the pass is made */
+    if (sum == 1) putchar(' '); /* uses the sum, so the compiler keeps the pass */
     return took;
 }
 
@@ -111,7 +107,7 @@ static double best(double (*measure)(const uint8_t *, size_t), const uint8_t *te
 int main(int argc, char **argv) {
     if (argc != 3) return 1;
     int version = atoi(argv[2]);
-    size_t length = most_bytes((uint32_t)version, POOL, EVENTS, CHECKPOINTS, OUTPUT);
+    size_t length = most_bytes((uint32_t)version, MOST_PAGES, MOST_EVENTS, MOST_CHECKPOINTS, MOST_SENT);
     uint8_t *text = malloc(length);
     if (!text) return 1;
     fill(text, version, length);

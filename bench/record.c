@@ -1,6 +1,6 @@
 /* Makes recordings to measure with, of programs that never end. Their states are those of the plain machine in machine.h.
  *
- *   record PROGRAM STEPS CHECKPOINTS [RATE]    writes a recording of so many steps, with so many checkpoints after the first, and
+ *   record PROGRAM STEPS CHECKPOINTS [RATE]    writes a recording of STEPS steps, with CHECKPOINTS checkpoints after the first, and
  *                                              with a timer that counts each RATE instructions; without it, or with 0, none
  *
  *   sort      fills an array with random numbers, makes one pass of a bubble sort through a procedure with a frame, and sieves
@@ -238,7 +238,7 @@ static void module(Code *c, Choice *choice) {
     emit(c, load(LINK, STACK, 0)); emit(c, imm(ADD, STACK, STACK, 16)); emit(c, jump_by_register(0, LINK));
 }
 
-/* Calls so many procedures, over and over. The stack is at 80000 hexadecimal and the table at 90000. */
+/* Calls a number of procedures, over and over. The stack is at 80000 hexadecimal and the table at 90000. */
 static void system_of(uint32_t *memory, uint32_t many, uint32_t division, int of_modules) {
     Code c = {memory, 0}, body = {memory, 1024};
     Choice choice = {7};
@@ -468,7 +468,7 @@ static void add_pages(const uint32_t *memory, Pool *pool, uint32_t *table) {
     for (uint32_t p = 0; p < PAGES; p++) {
         const uint32_t *page = memory + PAGE * p;
         if (!memcmp(page, pool->before + PAGE * p, 4 * PAGE)) continue;
-        if (pool->pages == 65536) die("too many pages");
+        if (pool->pages == MOST_PAGES) die("too many pages");
         memcpy(pool->words + (size_t)PAGE * pool->pages++, page, 4 * PAGE);
         table[p] = pool->pages;
     }
@@ -477,7 +477,7 @@ static void add_pages(const uint32_t *memory, Pool *pool, uint32_t *table) {
 
 static Event *events_of(const Program *program, uint64_t steps, size_t *many) {
     *many = program->apart ? steps / program->apart : 0;
-    if (*many > 1000000) die("too many inputs");
+    if (*many > MOST_EVENTS) die("too many inputs");
     Event *events = room_for(*many, sizeof *events);
     for (size_t i = 0; i < *many; i++) events[i] = (Event){program->apart * i, program->input_kind, (uint32_t)(i & 255)};
     return events;
@@ -486,7 +486,7 @@ static Event *events_of(const Program *program, uint64_t steps, size_t *many) {
 static int make(const Program *program, uint64_t steps, uint32_t segments, uint32_t rate) {
     static const uint32_t zeros[PAGES];
     Machine m = {.memory = room_for(WORDS, 4), .rate = rate};
-    Pool pool = {room_for((size_t)PAGE * 65536, 4), room_for(WORDS, 4), 0};
+    Pool pool = {room_for((size_t)PAGE * MOST_PAGES, 4), room_for(WORDS, 4), 0};
     Checkpoint *list = room_for(segments + 1, sizeof *list);
     size_t many, next = 0;
     Event *events = events_of(program, steps, &many);
@@ -503,7 +503,7 @@ static int make(const Program *program, uint64_t steps, uint32_t segments, uint3
         if (k) memcpy(list[k].table, list[k - 1].table, sizeof list[k].table);
         add_pages(m.memory, &pool, list[k].table);
     }
-    if (m.stop || sent > 1048576) die("the program stopped, or sent too much");
+    if (m.stop || sent > MOST_SENT) die("the program stopped, or sent too much");
     uint8_t *text = room_for(most_bytes(2, pool.pages, many, segments + 1, sent), 1);
     uint8_t *to = write_header(text, 2, pool.pages, (uint32_t)many, segments + 1);
     to = write_words(to, pool.words, (size_t)PAGE * pool.pages);

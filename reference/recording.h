@@ -9,6 +9,8 @@
 #define MAY_BE_UNUSED __attribute__((unused)) static
 
 enum { HEADER_BYTES = 24, PAGE_BYTES = 4 * PAGE, EVENT_BYTES = 16 };
+/* The most that a recording has: pages of its pool, events, checkpoints with the initial state, and bytes sent. */
+enum { MOST_PAGES = 65536, MOST_EVENTS = 1000000, MOST_CHECKPOINTS = 4097, MOST_SENT = 1048576 };
 /* Where a checkpoint has its keys, how much it sent, and, in version 2, the rate with the phase, how many changes there are, and
  * the changes; in version 1 the table comes in place of the last three. */
 enum { KEYS_AT = 112, SENT_AT = 128, TABLE_AT = 132, RATE_AT = 132, CHANGE_COUNT_AT = 140, CHANGES_AT = 144, CHANGE_BYTES = 8 };

@@ -5,20 +5,25 @@ from pathlib import Path
 import pytest
 from _pytest.terminal import TerminalReporter
 
-from of_tools.samples import PROGRAM
-from support import TOP
+from tests.support import TOP
+from tests.tools.samples import PROGRAM
 
 LIBRARIES = [TOP / folder / "libgalluspa.so" for folder in ("crates/galluspa/out", "out/lib")]
 # The files of tests that take longest, the longest first: they begin first, so that no process waits for one of them at the end.
 LONGEST = [
+    "test_debugsessions",
     "test_find",
-    "test_strangers",
-    "test_report",
-    "test_wheel",
     "test_documents",
+    "test_fuzz",
+    "test_recorded",
+    "test_strangers_cost",
+    "test_rerun_output",
+    "test_rerun_why",
+    "test_report",
+    "test_strangers",
+    "test_wheel",
     "test_recipes",
     "test_session",
-    "test_fuzz",
     "test_coverage",
     "test_slices",
     "test_bisect",
@@ -46,7 +51,7 @@ def shared_library() -> Path:
 
 
 def pytest_addoption(parser: pytest.Parser) -> None:
-    """The options of tests/page."""
+    """The options of `tests/run page`."""
     parser.addoption("--module", metavar="FILE", help="the page is built around a module that is there, as web/build does")
     parser.addoption("--part", metavar="PART", action="append", default=[], help="only the tests of a part of the page")
 

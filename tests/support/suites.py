@@ -1,4 +1,4 @@
-"""Runs a suite of tests by pytest, as the commands of tests/ do: installs what is missing, and passes arguments on."""
+"""Runs a suite of tests by pytest, as tests/run does: installs what is missing, and passes arguments on."""
 
 import os
 import shutil
@@ -7,8 +7,8 @@ from collections.abc import Mapping, Sequence
 from pathlib import Path
 from typing import NoReturn
 
-from of_tools.debian import install
-from support import TOP
+from tests.support import TOP
+from tests.tools.debian import install
 
 PACKAGES = Path("/usr/lib/python3/dist-packages")
 # Debian's packages that each suite needs, by a command or a file that each has.
@@ -38,7 +38,7 @@ def is_value(before: str) -> bool:
 def run_suite(
     folder: Path, arguments: Sequence[str], jobs: int, needed: Mapping[str, str | Path], dist: str = "loadfile"
 ) -> NoReturn:
-    """Runs the tests of a folder in so many processes, by default each file of tests in one of them. Arguments are those of pytest; besides,
+    """Runs the tests of a folder in a number of processes, by default each file of tests in one of them. Arguments are those of pytest; besides,
     a file of the folder goes by its name, as in `test_film`, and so do its tests: `test_film.FilmTest.test_helps`."""
     get_ready(folder.name, needed)
     words = chosen(folder, arguments)

@@ -1,0 +1,1 @@
+"""The tests, a package for each part; tests/run starts them."""

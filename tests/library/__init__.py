@@ -1,0 +1,1 @@
+"""The tests of the library for C, which `tests/run library` runs."""

@@ -1,0 +1,307 @@
+"""The library for C, called by ctypes: each call is tested for what it leaves unchanged when it is refused."""
+
+import ctypes
+from array import array
+from collections.abc import Sequence
+from pathlib import Path
+from typing import Any
+
+from tests.library.header import SIZES, fields_of, laid_out
+from tests.library.trial import expect, fail
+
+WORDS = 262144
+TYPES: dict[str, Any] = {"u8": ctypes.c_uint8, "u32": ctypes.c_uint32, "u64": ctypes.c_uint64}
+Words = ctypes.Array[ctypes.c_uint32]
+# A condition of a search: its kind, the first and the end of its range, and its value.
+# The fields of a condition; the last two may be missing.
+Sought = tuple[int, ...]
+
+
+class State(ctypes.Structure):
+    _fields_ = [
+        (it.name, TYPES[it.unit] if it.size == SIZES[it.unit] else TYPES[it.unit] * (it.size // SIZES[it.unit]))
+        for it in laid_out(fields_of("RawState"))[0]
+    ]
+
+
+class Input(ctypes.Structure):
+    _fields_ = [("count", ctypes.c_uint64), ("kind", ctypes.c_uint32), ("value", ctypes.c_uint32)]
+
+
+class Condition(ctypes.Structure):
+    _fields_ = [(name, ctypes.c_uint32) for name in ("kind", "from_", "end", "value", "least", "most")]
+
+
+class Hit(ctypes.Structure):
+    _fields_ = [("count", ctypes.c_uint64), ("condition", ctypes.c_uint64)]
+
+
+class Record(ctypes.Structure):
+    _fields_ = [
+        ("state", State),
+        *((name, ctypes.c_uint64) for name in ("inputs_from", "inputs_count")),
+        *((name, ctypes.c_uint32) for name in ("word", "address", "old_value", "new_value", "sent")),
+        *((name, ctypes.c_uint8) for name in ("has_word", "access_bytes", "stores", "sends")),
+    ]
+
+
+class Call(ctypes.Structure):
+    _fields_ = [("count", ctypes.c_uint64), *((name, ctypes.c_uint32) for name in ("at", "to", "back", "sp"))]
+
+
+class Turn(ctypes.Structure):
+    _fields_ = [
+        *((name, ctypes.c_uint64) for name in ("count", "stay")),
+        *((name, ctypes.c_uint32) for name in ("at", "to", "back", "sp")),
+    ]
+
+
+class Page(ctypes.Structure):
+    _fields_ = [("words", ctypes.c_uint32 * 256)]
+
+
+class Claimed(ctypes.Structure):
+    """A checkpoint, with its memory by pages."""
+
+    _fields_ = [("state", State), ("sent_count", ctypes.c_uint64), ("pages", ctypes.c_uint32 * 1024)]
+
+
+Inputs = Sequence[Input] | ctypes.Array[Input]
+
+
+class Library:
+    """The shared library."""
+
+    def __init__(self, path: Path) -> None:
+        self.c = ctypes.CDLL(str(path))
+        # The memory for what is written, which grows as a call needs.
+        self.buffer = ctypes.create_string_buffer(0)
+        for name in ("check", "record", "migrate"):
+            getattr(self.c, f"galluspa_{name}").restype = ctypes.c_size_t
+        for name in ("claim", "claims", "advance", "find", "hits", "profile", "records", "calls", "begin", "extend"):
+            getattr(self.c, f"galluspa_{name}").restype = ctypes.c_uint8
+
+    def answer(self, name: str, given: bytes, room: int) -> tuple[int, bytes, int]:
+        """Returns the result, what was written at the front of `room` bytes, whether anything was written, and the status."""
+        out, status = ctypes.create_string_buffer(b"\xaa" * room, room + 1), ctypes.c_uint8(77)
+        size = ctypes.c_size_t
+        result = getattr(self.c, f"galluspa_{name}")(given, size(len(given)), out, size(room), ctypes.byref(status))
+        unchanged = out.raw[:room] == b"\xaa" * room and status.value == 77
+        if not result <= room:
+            expect(f"{name} without room", unchanged, True)
+        return result, out.raw[:result], status.value
+
+    def claim(self, text: bytes, at: int, length: int = WORDS) -> tuple[int, State, Words]:
+        """Returns the result, and the state and the words that a checkpoint claims. Nothing is to be written if it is refused."""
+        state, words = State(count=7), (ctypes.c_uint32 * length)()
+        code = self.c.galluspa_claim(
+            text, ctypes.c_size_t(len(text)), ctypes.c_uint32(at), ctypes.byref(state), words, ctypes.c_size_t(length)
+        )
+        if code and (bytes(state) != bytes(State(count=7)) or any(words)):
+            fail("a claim that was refused is written")
+        return code, state, words
+
+    def claims(self, text: bytes, rooms: tuple[int, int]) -> tuple[int, tuple[int, int], ctypes.Array[Claimed], ctypes.Array[Page]]:
+        """Returns the result, the numbers of checkpoints and of pages, and what all checkpoints claim. Nothing is to be written after
+        these, and no checkpoint and no page if it is refused."""
+        checkpoints, pages = (Claimed * rooms[0])(), (Page * rooms[1])()
+        ctypes.memset(checkpoints, 0xAA, ctypes.sizeof(checkpoints))
+        ctypes.memset(pages, 0xAA, ctypes.sizeof(pages))
+        counts = ctypes.c_size_t(77), ctypes.c_size_t(77)
+        code = self.c.galluspa_claims(
+            text,
+            ctypes.c_size_t(len(text)),
+            checkpoints,
+            ctypes.c_size_t(rooms[0]),
+            ctypes.byref(counts[0]),
+            pages,
+            ctypes.c_size_t(rooms[1]),
+            ctypes.byref(counts[1]),
+        )
+        written = (counts[0].value, counts[1].value) if not code else (0, 0)
+        rests = bytes(checkpoints)[written[0] * ctypes.sizeof(Claimed) :] + bytes(pages)[written[1] * ctypes.sizeof(Page) :]
+        if rests.strip(b"\xaa"):
+            fail("a reading of all claims writes more than there is")
+        return code, (counts[0].value, counts[1].value), checkpoints, pages
+
+    def advance(self, state: State, words: Words, inputs: Sequence[Input], to: int, room: int = 1 << 20) -> tuple[int, bytes]:
+        """Returns the result and the bytes sent. Nothing is to be changed where it is refused."""
+        before = bytes(state), bytes(words)
+        given = (Input * len(inputs))(*inputs)
+        sent, count, size = ctypes.create_string_buffer(room + 1), ctypes.c_size_t(77), ctypes.c_size_t
+        code = self.c.galluspa_advance(
+            ctypes.byref(state),
+            words,
+            size(len(words)),
+            given,
+            size(len(inputs)),
+            ctypes.c_uint64(to),
+            sent,
+            size(room),
+            ctypes.byref(count),
+        )
+        if code and (before != (bytes(state), bytes(words)) or any(sent.raw) or count.value != 77):
+            fail("an advance that was refused changes something")
+        return code, sent.raw[: count.value] if not code else b""
+
+    def find(
+        self, state: State, words: Words, inputs: Sequence[Input], to: int, conditions: Sequence[Sought], wanted: int
+    ) -> tuple[int, tuple[int, int] | None]:
+        """Returns the result of a search, and the count and the index of the hit. Nothing is to be changed unless there is one."""
+        before = bytes(state), bytes(words)
+        given, asked = (Input * len(inputs))(*inputs), (Condition * len(conditions))(*(Condition(*it) for it in conditions))
+        hit, size = Hit(77, 78), ctypes.c_size_t
+        code = self.c.galluspa_find(
+            ctypes.byref(state),
+            words,
+            size(len(words)),
+            given,
+            size(len(inputs)),
+            ctypes.c_uint64(to),
+            asked,
+            size(len(conditions)),
+            ctypes.c_uint32(wanted),
+            ctypes.byref(hit),
+        )
+        if before != (bytes(state), bytes(words)) or (code and (hit.count, hit.condition) != (77, 78)):
+            fail("a search changes something")
+        return code, None if code else (hit.count, hit.condition)
+
+    def hits(
+        self, state: State, words: Words, inputs: Sequence[Input], to: int, conditions: Sequence[Sought], room: int
+    ) -> tuple[int, list[tuple[int, int]]]:
+        """Returns the result of a search for all hits, and their counts and indices. The machine is advanced, unless the search is
+        refused; then nothing is to be changed, and never what is after the hits."""
+        before = bytes(state), bytes(words)
+        given, asked = (Input * len(inputs))(*inputs), (Condition * len(conditions))(*(Condition(*it) for it in conditions))
+        hits, count, size = (Hit * (room + 1))(*(Hit(77, 78) for _ in range(room + 1))), ctypes.c_size_t(77), ctypes.c_size_t
+        code = self.c.galluspa_hits(
+            ctypes.byref(state),
+            words,
+            size(len(words)),
+            given,
+            size(len(inputs)),
+            ctypes.c_uint64(to),
+            asked,
+            size(len(conditions)),
+            hits,
+            size(room),
+            ctypes.byref(count),
+        )
+        if code and (before != (bytes(state), bytes(words)) or count.value != 77):
+            fail("a search for all hits that was refused changes something")
+        found = [(it.count, it.condition) for it in hits]
+        number = 0 if code else count.value
+        if any(it != (77, 78) for it in found[number:]):
+            fail("a search for all hits writes past them")
+        return code, found[:number]
+
+    def profile(
+        self, state: State, words: Words, inputs: Sequence[Input], to: int, lengths: tuple[int, int] = (WORDS, WORDS)
+    ) -> tuple[int, "array[int]", "array[int]"]:
+        """Returns the result of counting, the visits and the departures, in arrays of these lengths. Nothing else is to be changed,
+        and nothing is to be written if it is refused."""
+        before, size = (bytes(state), bytes(words)), ctypes.c_size_t
+        given, counts = (Input * len(inputs))(*inputs), [(ctypes.c_uint64 * length)() for length in lengths]
+        for it in counts:
+            ctypes.memset(it, 0xAA, ctypes.sizeof(it))
+        code = self.c.galluspa_profile(
+            ctypes.byref(state),
+            words,
+            size(len(words)),
+            given,
+            size(len(inputs)),
+            ctypes.c_uint64(to),
+            counts[0],
+            size(lengths[0]),
+            counts[1],
+            size(lengths[1]),
+        )
+        if before != (bytes(state), bytes(words)) or (code and any(bytes(it).strip(b"\xaa") for it in counts)):
+            fail("a profile changes something")
+        return code, array("Q", bytes(counts[0])), array("Q", bytes(counts[1]))
+
+    def records(self, state: State, words: Words, inputs: Sequence[Input], number: int) -> tuple[int, list[Record]]:
+        """Returns the result of recording a number of instructions, and their records. Nothing is to be changed if it is refused, and nothing
+        is to be written after the records."""
+        before, size = (bytes(state), bytes(words)), ctypes.c_size_t
+        given, records = (Input * len(inputs))(*inputs), (Record * (number + 1))()
+        ctypes.memset(records, 0xAA, ctypes.sizeof(records))
+        code = self.c.galluspa_records(
+            ctypes.byref(state), words, size(len(words)), given, size(len(inputs)), records, size(number)
+        )
+        kept = bytes(records) if code == 1 else bytes(records[number])
+        if (code and before != (bytes(state), bytes(words))) or kept.strip(b"\xaa"):
+            fail("what is recorded changes something")
+        return code, list(records[:number])
+
+    def follow(
+        self,
+        state: State,
+        words: Words,
+        inputs: Sequence[Input],
+        to: int,
+        limit: int,
+        present: Sequence[Call],
+        rooms: tuple[int, int],
+    ) -> tuple[int, list[Call], list[tuple[int, int, tuple[int, int, int, int]]]]:
+        """Returns the result of following calls, those that are open then, and the turns, in arrays of these lengths. Nothing is to be
+        changed if it is refused, and nothing is to be written after what is counted."""
+        before, size = (bytes(state), bytes(words)), ctypes.c_size_t
+        given = (Input * len(inputs))(*inputs)
+        calls, turns = (Call * (max(rooms[0], len(present)) + 1))(), (Turn * (rooms[1] + 1))()
+        ctypes.memset(calls, 0xAA, ctypes.sizeof(calls))
+        ctypes.memset(turns, 0xAA, ctypes.sizeof(turns))
+        calls[: len(present)] = list(present)
+        kept, counts = (bytes(calls), bytes(turns)), (size(len(present)), size(77))
+        code = self.c.galluspa_calls(
+            ctypes.byref(state),
+            words,
+            size(len(words)),
+            given,
+            size(len(inputs)),
+            ctypes.c_uint64(to),
+            ctypes.c_uint32(limit),
+            calls,
+            size(rooms[0]),
+            ctypes.byref(counts[0]),
+            turns,
+            size(rooms[1]),
+            ctypes.byref(counts[1]),
+        )
+        if code and (before != (bytes(state), bytes(words)) or (counts[0].value, counts[1].value) != (len(present), 77)):
+            fail("calls that were refused change something")
+        lengths = (0, 0) if code else (counts[0].value, counts[1].value)
+        ends = ctypes.sizeof(Call) * lengths[0], ctypes.sizeof(Turn) * lengths[1]
+        if (bytes(calls)[ends[0] :], bytes(turns)[ends[1] :]) != (kept[0][ends[0] :], kept[1][ends[1] :]):
+            fail("what is after calls and turns changes")
+        noted = [(it.count, it.stay, (it.at, it.to, it.back, it.sp)) for it in turns[: lengths[1]]]
+        return code, list(calls[: lengths[0]]), noted
+
+    def written(self, name: str, given: Sequence[object], room: int) -> tuple[int, bytes, int]:
+        """Returns the result of a call, what it wrote, and the count. Nothing but the count is to be changed where it is
+        refused."""
+        if room > len(self.buffer):
+            self.buffer = ctypes.create_string_buffer(room)
+        out, count, size = self.buffer, ctypes.c_size_t(77), ctypes.c_size_t
+        ctypes.memset(out, 0xAA, room)
+        code = getattr(self.c, f"galluspa_{name}")(*given, out, size(room), ctypes.byref(count))
+        if code and (ctypes.string_at(out, room) != b"\xaa" * room or (code != 2 and count.value != 77)):
+            fail(f"{name} that was refused writes something")
+        return code, ctypes.string_at(out, count.value) if not code else b"", count.value
+
+    def begin(self, state: State, words: Words, room: int = 1 << 21) -> tuple[int, bytes, int]:
+        """Returns the result of beginning a recording, and the recording with its length."""
+        return self.written("begin", (ctypes.byref(state), words, ctypes.c_size_t(len(words))), room)
+
+    def extend(
+        self, text: bytes, inputs: Inputs, state: State, words: Words, sent: bytes, room: int = 1 << 21
+    ) -> tuple[int, bytes, int]:
+        """Returns the result of extending a recording, and the longer recording with its length."""
+        size = ctypes.c_size_t
+        given = inputs if isinstance(inputs, ctypes.Array) else (Input * len(inputs))(*inputs)
+        return self.written(
+            "extend",
+            (text, size(len(text)), given, size(len(inputs)), ctypes.byref(state), words, size(len(words)), sent, size(len(sent))),
+            room,
+        )

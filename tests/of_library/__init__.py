@@ -1,1 +1,0 @@
-"""The tests of the library for C, which tests/library runs."""

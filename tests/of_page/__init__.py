@@ -1,1 +1,0 @@
-"""What tests/page does with the page and with its module."""

@@ -1,1 +1,0 @@
-"""The tests of the tools, a module for each, and what they share: samples, a browser, the packages of Debian."""

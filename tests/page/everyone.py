@@ -1,0 +1,263 @@
+"""The page for everybody: what is seen first, all of it by the key Tab, contrast, fingers, a window at 200 %, and one source of colours and sizes."""
+
+import re
+
+from tests.page.desk import NOTICE, SENT, Desk, expect, fail
+from tests.page.offers import type_goto
+from tests.page.source import open_source
+from tests.page.stops import press_button
+from tests.page.timeline import FACE, look_at, run_to_end
+from tests.tools.samples import EXAMPLES, TOP
+
+TABS = ("state", "source", "code", "memory", "devices", "log")
+SCHEMES = ("light", "dark")
+SETTLED = "new Promise((done) => setTimeout(() => requestAnimationFrame(() => done()), 150))"
+# What has the focus: its name, and what is wrong with how it is shown, or nothing. A file is chosen by its label, and a frame may be that of a whole field.
+STOP = """
+(() => {
+  const it = document.activeElement, seen = it.closest(".button, .source") ?? it, { left, right, top, bottom, width, height } = seen.getBoundingClientRect();
+  const style = getComputedStyle(seen), name = it.id || it.textContent || it.className;
+  if (it === document.body) return null;
+  if (!seen.checkVisibility({ opacityProperty: true, visibilityProperty: true })) return [name, "it is not shown"];
+  if (width < 8 || height < 8) return [name, `it has ${width} by ${height} points`];
+  if (style.outlineStyle === "none" || parseFloat(style.outlineWidth) < 2) return [name, "nothing shows the focus"];
+  if (bottom <= 0 || top >= innerHeight || right <= 0 || left >= innerWidth) return [name, "it is not in the window"];
+  const x = Math.min(innerWidth - 1, Math.max(0, left + width / 2)), y = Math.min(innerHeight - 1, Math.max(0, Math.max(top, 0) + Math.min(height, innerHeight) / 2));
+  return seen.contains(document.elementFromPoint(x, y)) || document.elementFromPoint(x, y)?.contains(seen) ? [name, ""] : [name, "something lies over it"];
+})()
+"""
+# The texts of the page that are in sight and have less contrast to what is behind them than 4.5 : 1, or 3 : 1 where they are large.
+FAINT = """
+(() => {
+  const pen = new OffscreenCanvas(1, 1).getContext("2d", { willReadFrequently: true }), found = [];
+  // The colour as the browser paints it over another one: red, green and blue.
+  const over = (colour, below, opacity = 1) => {
+    pen.globalAlpha = 1;
+    pen.fillStyle = `rgb(${below.join()})`;
+    pen.fillRect(0, 0, 1, 1);
+    pen.globalAlpha = opacity;
+    pen.fillStyle = colour;
+    pen.fillRect(0, 0, 1, 1);
+    return [...pen.getImageData(0, 0, 1, 1).data.slice(0, 3)];
+  };
+  const behind = (it) => (it ? over(getComputedStyle(it).backgroundColor, behind(it.parentElement)) : [255, 255, 255]);
+  const opacityOf = (it) => (it ? Number(getComputedStyle(it).opacity) * opacityOf(it.parentElement) : 1);
+  const light = (colour) => colour.map((part) => part / 255).map((part) => (part <= 0.03928 ? part / 12.92 : ((part + 0.055) / 1.055) ** 2.4))
+    .reduce((sum, part, at) => sum + part * [0.2126, 0.7152, 0.0722][at], 0);
+  const walker = document.createTreeWalker(document.getElementById("galluspa"), NodeFilter.SHOW_TEXT);
+  while (walker.nextNode()) {
+    const text = walker.currentNode, it = text.parentElement, style = getComputedStyle(it);
+    if (!text.data.trim() || !it.checkVisibility({ opacityProperty: true, visibilityProperty: true }) || it.closest(":disabled, .unseen, script, option, canvas")) continue;
+    const back = behind(it), front = over(style.color, back, opacityOf(it)), [low, high] = [light(back), light(front)].sort((one, other) => one - other);
+    const ratio = (high + 0.05) / (low + 0.05), size = parseFloat(style.fontSize), isLarge = size >= 24 || (size >= 18.66 && style.fontWeight >= 600);
+    if (ratio < (isLarge ? 3 : 4.5)) found.push(`${ratio.toFixed(2)}: ${text.data.trim().slice(0, 40)} in ${it.outerHTML.slice(0, 60)}`);
+  }
+  return [...new Set(found)];
+})()
+"""
+# The controls in sight that have less than 44 points in height or width for a finger. Words that can be followed, in a text or in a row of a list, have no size of
+# their own, and what is chosen by a check box has its label.
+SMALL = """
+[...document.querySelectorAll("#galluspa :is(button, .button, summary, select, input, textarea)")].filter((it) => {
+  const { width, height } = it.getBoundingClientRect(), isWord = it.matches("dd *, .gutter, .trace *, .breaks *, .profile *, [id$=calls] *, .unseen, .button > *, [type=checkbox]");
+  return it.checkVisibility() && !isWord && (height < 43.5 || width < 43.5) && width > 1;
+}).map((it) => `${it.id || it.textContent}: ${it.getBoundingClientRect().width} by ${it.getBoundingClientRect().height}`)
+"""
+# The texts of buttons that are cut, and what is wider than the window.
+CUT = """
+[...document.querySelectorAll("#galluspa :is(button, summary, h2, label, legend)")].filter((it) => it.checkVisibility() && !it.closest(".unseen, .track, .listing")).filter((it) => {
+  const { left, right } = it.getBoundingClientRect();
+  return it.scrollWidth > it.clientWidth + 1 && it.clientWidth > 0 || right > innerWidth + 0.5 || left < -0.5;
+}).map((it) => it.id || it.textContent)
+"""
+
+
+def look_first(desk: Desk) -> None:
+    """An empty page plays a recorded game behind its cards until a key is pressed, says in a sentence what it is, and shows neither registers nor words for nothing."""
+    page = desk.page
+    page.resize(1366, 625)
+    desk.reload()
+    page.wait("demo && pixelsSet() > 10000")
+    page.answer("void (window.firstDots = screens.dots)")
+    page.wait("screens.dots.some((byte, at) => byte !== firstDots[at])")
+    parts = "['when', 'state', 'run-again', 'state-word'].map((it) => el(it).checkVisibility({ visibilityProperty: true }))"
+    expect("whether parts of a machine are shown", page.answer(parts), [False] * 4)
+    said = page.answer("document.getElementById('galluspa').innerText")
+    for word in ("EMPTY", "o machine yet"):
+        if word in said:
+            fail(f"an empty page says {word}")
+    expect("whether it is said what this is", "A workstation that you can rewind." in said, True)
+    expect("the lessons that are offered", page.answer("el('first').querySelectorAll('button').length > 6"), True)
+    page.press("Shift")
+    page.wait("demo === null")
+    expect("what is opened by then", page.answer("[galluspa.frame() ?? null, galluspa.work().generation]"), [None, 0])
+    press_button(desk, "draw")
+    page.wait("galluspa.frame()?.on && document.activeElement === el('screen')")
+    expect("whether the registers are shown", page.answer(parts)[:2], [True, True])
+    page.press("a")
+    page.wait(f"{SENT} === 'a' && galluspa.work().isStored && !galluspa.work().isNewer")
+    desk.reload()
+    page.wait("el('continue').checkVisibility() && !el('continue').disabled")
+    first = "[...el('welcome').querySelectorAll('button')].filter((it) => it.checkVisibility())[0].id"
+    expect("the first card", page.answer(first), "g-continue")
+    page.answer("forgetAll()")
+    print("first sight: a game is played behind the cards until a key is pressed; Continue comes first")
+
+
+def stops_of(desk: Desk, what: str) -> list[str]:
+    """Goes through the whole page by Tab, from its first control on, and returns the names of its stops. Each is in sight, and shows that it has the focus."""
+    page, names = desk.page, list[str]()
+    page.answer("document.body.tabIndex = -1; document.body.focus(); document.body.removeAttribute('tabindex'); scrollTo(0, 0)")
+    for _ in range(200):
+        page.press("Tab")
+        stop = page.answer(STOP)
+        if stop is None or (len(names) > 2 and stop[0] == names[0]):
+            return names
+        if stop[1]:
+            fail(f"{what}, stop {len(names) + 1}, {stop[0]!r}: {stop[1]}")
+        names.append(stop[0])
+    fail(f"{what}: 200 stops do not end")
+
+
+def walk_stops(desk: Desk) -> None:
+    """By Tab one comes to no control that is not seen, empty and with each tab in sight; the tabs are one stop, and arrows go from one to the next."""
+    page = desk.page
+    page.resize(1366, 768)
+    desk.reload()
+    numbers = [len(stops_of(desk, "the empty page"))]
+    run_to_end(desk, "face.orsr", FACE)
+    look_at(desk, 8000000)
+    for name in TABS:
+        page.answer(f"showTab({name!r})")
+        page.answer(SETTLED)
+        stops = stops_of(desk, f"the tab {name}")
+        expect(f"the stops among the tabs, with {name}", [it for it in stops if it.startswith("g-tab-")], [f"g-tab-{name}"])
+        numbers.append(len(stops))
+    page.answer("showTab('state'); el('tab-state').focus()")
+    for key, wanted in (("ArrowRight", "source"), ("End", "log"), ("ArrowRight", "state"), ("ArrowLeft", "log"), ("Home", "state")):
+        page.press(key)
+        expect(f"the tab after {key}", page.answer(f"[document.activeElement.id, isTab({wanted!r})]"), [f"g-tab-{wanted}", True])
+    print(f"Tab: {numbers[0]} stops of an empty page, {numbers[1:]} with a recording; each is seen, and the tabs are one")
+
+
+def tell_parts(desk: Desk) -> None:
+    """The page has one main part, a heading for each panel, and an editor that says how one leaves it."""
+    page = desk.page
+    expect("the main part", page.answer("document.querySelectorAll('main').length"), 1)
+    for name in TABS:
+        page.answer(f"showTab({name!r})")
+        found = page.answer(f"el('panel-{name}').querySelector('h2')?.textContent.trim()")
+        expect(f"whether {name} has a heading", bool(found), True)
+    open_source(desk, "snake.asm", (EXAMPLES / "snake.asm").read_text())
+    page.answer("sourceField.field.focus()")
+    said = page.answer("sourceField.field.getAttribute('aria-description') ?? ''")
+    expect("what the editor says of leaving it", "Esc leaves" in said, True)
+    page.press("Tab")
+    expect("whether Tab stays in it", page.answer("document.activeElement === sourceField.field"), True)
+    page.press("Escape")
+    expect("whether Esc leaves it", page.answer("document.activeElement === sourceField.field"), False)
+    page.answer("el('source-saves').querySelector('summary').focus()")
+    for where, key in ((True, "Tab"), (False, "Tab")):
+        page.press(key)
+        expect(
+            "whether Tab comes to the editor, and goes on from it",
+            page.answer("document.activeElement === sourceField.field"),
+            where,
+        )
+    print("parts: one main part, a heading for each panel, and an editor that says how one leaves it")
+
+
+def see_contrast(desk: Desk) -> None:
+    """Each text in sight has a contrast of 4.5 : 1 at least, light and dark, empty and with each tab in sight."""
+    page = desk.page
+    page.resize(1400, 900)
+    desk.reload()
+    for scheme in SCHEMES:
+        page.prefer(scheme)
+        expect(f"faint texts of an empty page, {scheme}", page.answer(FAINT), [])
+    open_source(desk, "snake.asm", (EXAMPLES / "snake.asm").read_text())
+    press_button(desk, "source-run")
+    page.wait("galluspa.frame()?.on && galluspa.count() > 3000000")
+    desk.pause()
+    look_at(desk, 2000000)
+    for scheme in SCHEMES:
+        page.prefer(scheme)
+        for name in TABS:
+            page.answer(f"showTab({name!r})")
+            page.answer(SETTLED)
+            expect(f"faint texts of {name}, {scheme}", page.answer(FAINT), [])
+    page.prefer("light")
+    print("contrast: 4.5 : 1 for each text, light and dark, with each tab")
+
+
+def fit_fingers(desk: Desk) -> None:
+    """For a finger each control has 44 points at least, on a phone, on a tablet and in a wide window; nothing is outside these."""
+    page = desk.page
+    page.use_touch(True)
+    for width, height in ((400, 800), (800, 1100), (1400, 900)):
+        page.resize(width, height)
+        run_to_end(desk, "face.orsr", FACE)
+        expect("whether the pointer is coarse", page.answer("matchMedia('(pointer: coarse)').matches"), True)
+        for name in TABS:
+            page.answer(f"showTab({name!r})")
+            page.answer(SETTLED)
+            expect(f"small controls of {name} at {width} by {height}", page.answer(SMALL), [])
+        expect(f"the width of the page at {width}", page.answer("document.documentElement.scrollWidth"), width)
+    page.use_touch(False)
+    page.resize(1400, 900)
+    print("fingers: 44 points at least for each control, at three sizes")
+
+
+def fit_twice(desk: Desk) -> None:
+    """Nothing is cut where a window of 1,366 by 768 points is shown at 200 %."""
+    page = desk.page
+    page.resize(683, 384)
+    run_to_end(desk, "face.orsr", FACE)
+    for name in TABS:
+        page.answer(f"showTab({name!r})")
+        page.answer(SETTLED)
+        expect(f"what is cut of {name}", page.answer(CUT), [])
+        expect(f"the width of the page with {name}", page.answer("document.documentElement.scrollWidth"), 683)
+    page.resize(1400, 900)
+    print("200 %: nothing is cut")
+
+
+def tell_news(desk: Desk) -> None:
+    """News is not in the red of what is refused."""
+    page, colour = desk.page, "[el('notice').className, getComputedStyle(el('notice')).borderLeftColor]"
+    run_to_end(desk, "face.orsr", FACE)
+    type_goto(desk, "1.5")
+    page.wait(f"{NOTICE}.startsWith('1.5 is not a whole count')")
+    name, red = page.answer(colour)
+    look_at(desk, 8000000)
+    desk.click("save-recording")
+    page.wait(f"{NOTICE}.startsWith('This is all of the recording')")
+    expect("the kinds of both", [name, page.answer(colour)[0]], ["failed", ""])
+    expect("whether both have one colour", page.answer(colour)[1] == red, False)
+    desk.saved("face-live.orsr")
+    print("news: it is not in the red of what is refused")
+
+
+def know_sizes(desk: Desk) -> None:
+    """All colours and sizes that the page, its scripts and the pages of tools name are defined once, in the source that all of them take; the page has no other colours."""
+    tokens = (TOP / "tools/galluspa/output/tokens.css").read_text()
+    css = (TOP / "web/page.css").read_text()
+    scripts = {it: it.read_text() for it in (TOP / "web/ui").rglob("*.js")}
+    templates = {it: it.read_text() for it in (TOP / "tools/galluspa/output").glob("*.j2")} | {
+        it: it.read_text() for it in (TOP / "tools/galluspa/output").glob("pages.css")
+    }
+    known = set(re.findall(r"--([\w-]+):", tokens)) | set(re.findall(r"--([\w-]+):", css))
+    known |= {name for text in scripts.values() for name in re.findall(r'setProperty\("--([\w-]+)"', text)} | {"heat"}
+    used = set(re.findall(r"var\(--([\w-]+)", css + "".join(templates.values()) + tokens))
+    used |= {name for text in scripts.values() for name in re.findall(r'\bcolour\("([\w-]+)"', text)}
+    expect("colours and sizes that are not defined", sorted(used - known), [])
+    for name in {name for name in re.findall(r"--([\w-]+): #", tokens)}:
+        expect(
+            f"whether the page has {name}",
+            bool(desk.page.answer(f"getComputedStyle(el('lanes')).getPropertyValue('--{name}')")),
+            True,
+        )
+    print(f"sizes: {len(used)} colours and sizes are used, and all are defined once")
+
+
+TASKS = (look_first, walk_stops, tell_parts, see_contrast, fit_fingers, fit_twice, tell_news, know_sizes)

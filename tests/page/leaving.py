@@ -1,0 +1,443 @@
+"""Sources are not lost: where the browser's storage is full or denied, where there are many of them, and where one forgets them. All that the page gets
+are keys and clicks; each task has a profile of its own.
+
+Its tasks share the helpers and the programs at its head, so it is one module of more than 400 lines.
+"""
+
+import json
+import re
+from collections.abc import Mapping
+from pathlib import Path
+
+from tests.page.closing import COUNT, HOLD_UP, KEPT, WORD, Person, begun
+from tests.page.desk import NOTICE, SENT, expect, fail
+from tests.page.source import DRAWS, drop_together
+
+TEXT = "(document.querySelector('#g-source .text')?.textContent ?? '')"
+BRANCH = re.compile(r", branch (\d), of ")
+# The number of the line with a breakpoint.
+BROKEN = "document.querySelector('#g-source [aria-pressed=true]')?.parentElement.textContent"
+# A program of two sources: the one draws where the other one says.
+DRAW_AT = DRAWS.index("draw:")
+PARTS = {"draws.asm": f'{DRAWS[:DRAW_AT]}        include "dots.asm"\n', "dots.asm": f"; Draws a word.\n{DRAWS[DRAW_AT:]}"}
+# Writes a recording that is kept forty times more, as an earlier build kept it: with all of its memory, and with no record beside it.
+MANY_ITEMS = """
+withKept("readwrite", (store) => {
+  const asked = store.getAll();
+  asked.onsuccess = () => {
+    const { changedAt, desk, live, ...item } = asked.result.find(({ recording }) => recording), words = new Uint8Array(1048576);
+    if (live.pages) live.pages.forEach((page, at) => words.set(live.words.subarray(1024 * at, 1024 * (at + 1)), 1024 * page));
+    else words.set(live.words);
+    for (let more = 1; more <= 40; more++) store.put({ ...item, id: item.id - 60000 * more, live: { state: live.state, words } });
+  };
+  return asked;
+})
+"""
+NUMBER = "document.getElementById('g-kept-number').textContent"
+# The list of what is kept takes half a second to be read.
+SLOW_LIST = "(() => { const read = sourceSummaries; sourceSummaries = (listed) => new Promise((done) => setTimeout(done, 500)).then(() => read(listed)); })()"
+
+
+def begin_program(who: Person) -> None:
+    """Begins a program from nothing: by the card of the empty page, or by the menu."""
+    if who.page.answer(f"!{TEXT} && document.getElementById('g-write').checkVisibility()"):
+        who.press_button("#g-write")
+    else:
+        who.press_button("#g-lessons summary")
+        who.page.wait("document.querySelector('#g-lessons-list button')")
+        who.press_button("#g-lessons-list button")
+        who.page.wait(f"!document.querySelector('#g-lessons').open && !{TEXT}.includes('MOV')")
+        who.press_button("#g-source .text .chunk > :last-child")
+    who.page.wait("document.activeElement.closest('#g-source .text')")
+
+
+def write_line(who: Person, text: str) -> None:
+    """Types a line into the source."""
+    for character in text:
+        who.page.press(character)
+    who.page.wait(f"{TEXT}.includes({json.dumps(text)})")
+
+
+def open_kept(who: Person, what: str, number: int = 1) -> None:
+    """Presses the button of a kind of an item in the list of what is kept."""
+    if not who.page.answer("document.getElementById('g-kept').open"):
+        who.press_button("#g-kept summary")
+    found = f"[...document.querySelectorAll('#g-kept-list button')].filter((it) => it.textContent === '{what}')[{number - 1}]"
+    who.page.wait(found)
+    who.click_on(found)
+
+
+def lose_nothing(who: Person, why: str) -> None:
+    """Writes a program that the browser cannot keep: the page says so, keeps it while another one is written, and asks before it is left."""
+    begin_program(who)
+    write_line(who, "MOV R1, 11")
+    wanted = f"This browser cannot keep the source program.asm, so save it to a file: {why}"
+    who.page.wait(f"{NOTICE} === {json.dumps(wanted)}")
+    expect("whether the browser asks before the page is left", who.page.is_kept_open(), True)
+    begin_program(who)
+    expect("what is said of the source that was left", who.page.answer(NOTICE), wanted)
+    who.page.wait(f"{KEPT}.length")
+    texts = [text for text in who.page.answer(KEPT) if text.startswith("Source ")]
+    if len(texts) != 1 or "it is in this page only, since this browser cannot keep it" not in texts[0]:
+        fail(f"what is kept of a source that was left: {texts}")
+    expect("whether the browser asks though another source is open", who.page.is_kept_open(), True)
+    open_kept(who, "Open")
+    who.page.wait(f"{TEXT}.includes('MOV R1, 11')")
+
+
+def fill_storage(folder: Path) -> None:
+    """A source that a full storage does not take stays in the page, and is written once there is room."""
+    with begun(folder) as who:
+        who.page.limit_storage(1000)
+        lose_nothing(who, "the browser's storage is full")
+        who.page.limit_storage()
+        # Tried again by time.
+        who.page.wait("!isSourceUnsafe()")
+        expect("whether the browser asks once it is written", who.page.is_kept_open(), False)
+        who.ready()
+        who.press_button("#g-write")
+        who.page.wait(f"{TEXT}.includes('MOV R1, 11')")
+        who.expect_sound()
+    print("left: a source that a full storage does not take stays in the page, which asks, and is written later")
+
+
+def leave_before_written(folder: Path) -> None:
+    """A line of a source is kept though the page is loaded anew while the database still writes something else."""
+    with begun(folder) as who:
+        begin_program(who)
+        for text in ("MOV R1, 11", "MOV R1, 22"):
+            who.page.answer(HOLD_UP)
+            write_line(who, text)
+            who.reload()
+            continue_with(who, "Source program.asm")
+            who.page.wait(f"{TEXT}.includes('{text}')")
+            who.page.press("End", number=35)
+        who.expect_sound()
+    print("left: a line is kept though the database was still writing something else as the page was left")
+
+
+def go_back_and_forth(folder: Path) -> None:
+    """Two sources that a full storage did not take are each kept with their own text, though one is opened again as soon as there is room."""
+    texts = ["MOV R1, 11", "MOV R1, 22"]
+    with begun(folder) as who:
+        who.page.limit_storage(1000)
+        for text in texts:
+            begin_program(who)
+            write_line(who, text)
+        who.page.wait(f"{KEPT}.length")
+        # From here on nothing is tried again by time.
+        who.page.answer("for (let id = setTimeout(() => {}); id > 0; id--) clearTimeout(id); openItem.timer = 0;")
+        who.page.limit_storage()
+        open_kept(who, "Open")
+        who.page.wait(f"{TEXT}.includes('{texts[0]}')")
+        who.page.wait("!isSourceUnsafe()")
+        found = who.page.answer(
+            "summaries().then(({ sources }) => Promise.all(sources.map(([id]) => keptNow(id)))).then((all) => all.map(({ text }) => text.split('\\n').pop()))"
+        )
+        expect("the last lines of what is kept", sorted(found), texts)
+        who.expect_sound()
+    print("left: two sources, of which one is opened again once there is room, are kept with their own texts")
+
+
+def deny_storage(folder: Path) -> None:
+    """A source stays in the page where the browser denies it any storage."""
+    settings = folder / "profile/Default"
+    settings.mkdir(parents=True)
+    (settings / "Preferences").write_text(json.dumps({"profile": {"default_content_setting_values": {"cookies": 2}}}))
+    with begun(folder) as who:
+        lose_nothing(who, "The user denied permission to access the database.")
+    print("left: a source that a denied storage does not take stays in the page, which asks")
+
+
+def list_sources(folder: Path) -> None:
+    """Each source that one leaves is in the list at once, also of more than twenty; those that are forgotten come back, one or all."""
+    many = 23
+    with begun(folder) as who:
+        for number in range(many):
+            begin_program(who)
+            write_line(who, f"MOV R2, {number}")
+            if number:
+                who.page.wait(f"{NUMBER} === '{number}'")
+        begin_program(who)
+        who.page.wait(f"{NUMBER} === '{many}'")
+        open_kept(who, "Open", many)
+        who.page.wait(f"{TEXT}.includes('MOV R2, 0')")
+        who.page.wait(f"{NUMBER} === '{many - 1}'")
+        open_kept(who, "Delete")
+        who.page.wait(f"{NUMBER} === '{many - 2}'")
+        open_kept(who, "Undo")
+        who.page.wait(f"{NUMBER} === '{many - 1}'")
+        # The list still shows the source that is opened, and not yet the one that is left.
+        who.page.answer(SLOW_LIST)
+        open_kept(who, "Open")
+        who.page.wait(f"{TEXT}.includes('MOV R2, {many - 1}')")
+        who.press_button("#g-kept summary")
+        who.press_button("#g-forget-all")
+        who.page.wait(f"{NUMBER} === 'none'")
+        open_kept(who, "Undo")
+        who.page.wait(f"{NUMBER} === '1'")
+        who.expect_sound()
+    print(f"left: {many} sources are listed as they are left, opened, forgotten and brought back")
+
+
+def keep_beside_many(folder: Path) -> None:
+    """An input is kept though the page is left right after a machine was opened or branched off beside forty large items of an earlier build, which
+    can still be resumed. A run of a small program takes some kilobytes."""
+    with begun(folder) as who:
+        who.begin_drawing()
+        who.type("a")
+        who.run_or_pause()
+        who.wait_until_kept()
+        who.page.answer(MANY_ITEMS)
+        who.reload()
+        who.page.wait(f"{NUMBER} === '41'")
+        who.begin_drawing()
+        who.page.press("b")
+        who.reload()
+        who.page.wait(f"{NUMBER} === '42'")
+        who.resume()
+        who.run_or_pause()
+        who.page.wait(f"{SENT} === 'b'")
+        who.run_or_pause()
+        end = who.count()
+        who.press_button("#g-begin-at")
+        who.page.wait(f"{WORD}.startsWith('VIEWING ') && {COUNT} === 0")
+        who.press_button("#g-take-here")
+        who.page.wait(f"{WORD} === 'PAUSED' && {COUNT} === 0")
+        who.run_or_pause()
+        who.page.press("c")
+        who.reload()
+        who.page.wait(f"{NUMBER} === '42'")
+        kept = who.page.answer(KEPT)
+        expect("the branches that are kept", sorted(it[1] for text in kept if (it := BRANCH.search(text))), ["1", "2"])
+        expect(
+            "whether the older branch is whole",
+            any(", branch 1, of " in text and f": {end:,} instructions, 1 input, " in text for text in kept),
+            True,
+        )
+        sizes = [text.split(", ")[-1] for text in kept if BRANCH.search(text)]
+        expect("whether a run of a small program is small", [size.endswith(" kB") for size in sizes], [True, True])
+        who.resume()
+        who.run_or_pause()
+        who.page.wait(f"{SENT} === 'c'")
+        who.run_or_pause()
+        open_kept(who, "Resume", 20)
+        who.page.wait(f"{WORD} === 'PAUSED' && {SENT} === 'a'")
+        expect("the keys of an item of an earlier build", who.keys(), "a")
+        who.expect_sound()
+    print("left: beside forty large items, right after a machine was opened and branched off; the key is kept")
+
+
+def continue_last(folder: Path) -> None:
+    """*Continue* resumes what was worked on last: a recording with its source, breakpoints and cursor, or a source with its caret. *Run* over a
+    source without instructions leaves the machine."""
+    with begun(folder) as who:
+        who.begin_drawing()
+        who.type("a")
+        who.run_or_pause()
+        who.wait_until_kept()
+        who.choose("draws.asm", DRAWS.encode())
+        who.page.wait(f"{TEXT}.includes('Draws what is typed')")
+        who.press_button("#g-source .text .chunk > :first-child")
+        write_line(who, "Yes")
+        who.press_button("#g-source-run")
+        who.page.wait(f"{WORD} === 'LIVE' && document.activeElement.id === 'g-screen'")
+        for key in "kl":
+            who.page.press(key)
+        who.page.wait("document.getElementById('g-status').textContent.includes(', 2 inputs')")
+        who.run_or_pause()
+        who.press_button('#g-source [data-line="4"]')
+        for _ in range(3):
+            who.press_button("#g-back")
+        who.page.wait(f"{WORD}.startsWith('VIEWING ')")
+        at = who.count()
+        who.wait_until_kept()
+        who.reload()
+        continue_with(who, "draws")
+        who.page.wait(f"{WORD}.startsWith('VIEWING ') && {COUNT} === {at} && {TEXT}.includes('Yes')")
+        who.page.wait(f"{BROKEN} === '5'")
+        who.press_button("#g-step")
+        who.page.wait(f"{COUNT} === {at + 1}")
+        # The older one is worked on.
+        who.reload()
+        who.page.wait("document.querySelectorAll('#g-kept-list p').length === 2")
+        open_kept(who, "Resume", 2)
+        who.page.wait(f"{WORD} === 'PAUSED' && {SENT} === 'a'")
+        who.run_or_pause()
+        who.type("b")
+        who.run_or_pause()
+        who.wait_until_kept()
+        who.reload()
+        continue_with(who, "draw")
+        who.page.wait(f"{WORD} === 'PAUSED' && {SENT} === 'ab'")
+        expect("the source of a machine that has none", who.page.answer(TEXT), "")
+        count = who.count()
+        who.press_button("#g-tab-source")
+        begin_program(who)
+        who.press_button("#g-source-run")
+        who.page.wait(f"{NOTICE} === 'program.asm has no instructions yet.'")
+        expect("the machine after Run without instructions", (who.count(), who.page.answer(SENT)), (count, "ab"))
+        who.press_button("#g-source .text .chunk > :first-child")
+        write_line(who, "Mine")
+        who.page.press("ArrowLeft", number=37)
+        who.page.wait("!isSourceUnsafe()")
+        who.reload()
+        continue_with(who, "Source program.asm")
+        who.page.wait(f"{TEXT}.includes('Mine')")
+        write_line(who, "x")
+        expect("where one writes on", "Minxe" in who.page.answer(TEXT), True)
+        who.expect_sound()
+    print("left: Continue goes on with what was worked on last: its source, its breakpoints, its cursor")
+
+
+def show_part(who: Person, file: str) -> None:
+    """Chooses a source of the program by an arrow key."""
+    who.page.answer("document.getElementById('g-source-part').focus()")
+    who.page.press("ArrowDown" if file == "dots.asm" else "ArrowUp", number=40 if file == "dots.asm" else 38)
+    who.page.wait(f"galluspa.source().file === '{file}'")
+
+
+def expect_parts(who: Person, texts: Mapping[str, str], breaks: Mapping[str, str | None]) -> None:
+    """Expects all sources of the program, with what was written in each and its breakpoint; the last one is shown at the end."""
+    for file, text in texts.items():
+        if who.page.answer("galluspa.source().file") != file:
+            show_part(who, file)
+        expect(f"the text of {file}", who.page.answer(TEXT).startswith(text), True)
+        expect(f"the breakpoint of {file}", who.page.answer(BROKEN), breaks[file])
+
+
+def keep_several(folder: Path) -> None:
+    """All sources of a program are kept: with their breakpoints, and with a machine that is run from them."""
+    texts, breaks = {"draws.asm": ";Yes; Draws what", "dots.asm": ";Dots; Draws a word."}, {"draws.asm": "5", "dots.asm": "2"}
+    with begun(folder) as who:
+        drop_together(who, {name: text.encode() for name, text in PARTS.items()})
+        who.page.wait(f"{TEXT}.includes('Draws what is typed')")
+        for file, text in texts.items():
+            if file == "dots.asm":
+                show_part(who, file)
+            write_first(who, text[: text.index("; ")])
+            who.press_button(f'#g-source [data-line="{int(breaks[file]) - 1}"]')
+        who.reload()
+        continue_with(who, "Source dots.asm and 1 more file")
+        who.page.wait(f"{TEXT}.includes('Dots')")
+        expect_parts(who, {file: texts[file] for file in ("dots.asm", "draws.asm")}, breaks)
+        run_several(who)
+        who.reload()
+        continue_with(who, "draws")
+        who.page.wait(f"{WORD} !== 'LIVE' && document.querySelector('#g-source .here') && galluspa.source().file === 'dots.asm'")
+        expect_parts(who, {file: texts[file] for file in ("draws.asm", "dots.asm")}, {"draws.asm": None, "dots.asm": "2"})
+        at = who.count()
+        who.press_button("#g-step")
+        who.page.wait(f"{COUNT} === {at + 1}")
+        who.expect_sound()
+    print("left: all sources of a program are kept, with their breakpoints and with their machine")
+
+
+def run_several(who: Person) -> None:
+    """Runs the program of two sources, up to the breakpoint in the one that is not shown."""
+    who.press_button('#g-source [data-line="4"]')
+    who.press_button("#g-source-run")
+    who.page.wait(f"{WORD} === 'LIVE' && document.activeElement.id === 'g-screen'")
+    who.page.press("k")
+    who.page.wait(f"{WORD} !== 'LIVE' && galluspa.source().file === 'dots.asm'")
+    who.page.wait("document.querySelector('#g-source .here')")
+    who.wait_until_kept()
+
+
+def fill_with_several(folder: Path) -> None:
+    """Both sources of a program that a full storage does not take stay in the page, and are written once there is room."""
+    texts, breaks = {"dots.asm": ";Less; Draws a word.", "draws.asm": ";More; Draws what"}, {"dots.asm": None, "draws.asm": None}
+    with begun(folder) as who:
+        who.page.limit_storage(1000)
+        drop_together(who, {name: text.encode() for name, text in PARTS.items()})
+        who.page.wait(f"{TEXT}.includes('Draws what is typed')")
+        write_first(who, ";More")
+        wanted = (
+            "This browser cannot keep the source draws.asm and 1 more file, so save each to a file: the browser's storage is full"
+        )
+        who.page.wait(f"{NOTICE} === {json.dumps(wanted)}")
+        expect("whether the browser asks before the page is left", who.page.is_kept_open(), True)
+        show_part(who, "dots.asm")
+        write_first(who, ";Less")
+        begin_program(who)
+        who.page.wait(f"{TEXT}.includes('A program of your own')")
+        open_kept(who, "Open")
+        who.page.wait(f"{TEXT}.includes('Less')")
+        expect_parts(who, texts, breaks)
+        who.page.limit_storage()
+        who.page.wait("!isSourceUnsafe()")
+        who.reload()
+        continue_with(who, "Source draws.asm and 1 more file")
+        who.page.wait(f"{TEXT}.includes('More')")
+        expect_parts(who, dict(reversed(texts.items())), breaks)
+        who.expect_sound()
+    print("left: two sources of a program that a full storage does not take stay in the page, and are written later")
+
+
+def write_first(who: Person, text: str) -> None:
+    """Types at the beginning of the source that is shown."""
+    who.press_button("#g-source .text .chunk > :first-child")
+    who.page.press("Home", number=36)
+    write_line(who, text)
+
+
+def continue_with(who: Person, name: str) -> None:
+    """Presses *Continue*, which offers something of a name."""
+    who.page.wait("!document.getElementById('g-continue').disabled")
+    offered = who.page.answer("document.getElementById('g-continue-what').textContent")
+    if not offered.startswith(f"{name},"):
+        fail(f"Continue offers {offered!r} in place of {name}")
+    who.press_button("#g-continue")
+
+
+def end_in_a_project(folder: Path) -> None:
+    """A project is there again as one, though the browser's process is ended a moment after something was done in it: its source as it was written last, its
+    run, also one without inputs, its breakpoint, its note and its cursor."""
+    with begun(folder) as who:
+        begin_program(who)
+        for text in ("loop: ADD R1, R1, 1", "B loop"):
+            write_line(who, text)
+            who.page.press("Enter", number=13)
+        who.press_button("#g-source-run")
+        who.page.wait(f"{WORD} === 'LIVE'")
+        who.run_or_pause()
+        who.page.wait("galluspa.work().isStored")
+        who.press_button('#g-source [data-line="2"]')
+        for _ in range(3):
+            who.press_button("#g-back")
+        who.page.wait(f"{WORD}.startsWith('VIEWING ')")
+        at = who.count()
+        who.press_button("#g-tab-log")
+        who.press_button("#g-note")
+        for sign in "here":
+            who.page.press(sign)
+        who.press_button("#g-note-form button")
+        who.press_button("#g-tab-source")
+        who.press_button("#g-source .text .chunk > :last-child")
+        write_line(who, "MOV R2, 77")
+        who.page.wait(
+            "!isSourceUnsafe() && galluspa.work().about.desk.notes.length === 1 && galluspa.work().about.desk.breaks.length === 1"
+        )
+        who.browser.kill()
+    with begun(folder) as who:
+        continue_with(who, "program")
+        who.page.wait(f"{WORD}.startsWith('VIEWING ') && {COUNT} === {at} && {TEXT}.includes('MOV R2, 77')")
+        who.page.wait(f"{BROKEN} === '3'")
+        expect("the notes", who.page.answer("[...pins]"), [[at, "here"]])
+        expect("what else is kept", who.page.answer(NUMBER), "none")
+        who.expect_sound()
+    print("left: a project is there again as one, though the browser's process was ended")
+
+
+TASKS = (
+    end_in_a_project,
+    fill_storage,
+    leave_before_written,
+    go_back_and_forth,
+    deny_storage,
+    list_sources,
+    keep_beside_many,
+    continue_last,
+    keep_several,
+    fill_with_several,
+)

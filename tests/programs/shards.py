@@ -1,0 +1,227 @@
+"""Checks recordings in shards of random divisions, true, false and refused ones, and compares what `combine` prints of the lines, in any
+order, with the line of `check`.
+
+What `combine` has to print of lines of which some are missing is worked out here anew, from docs/formats.md alone.
+"""
+
+import subprocess
+from collections.abc import Iterator, Sequence
+from dataclasses import dataclass, replace
+from pathlib import Path
+from random import Random
+
+from galluspa.formats.recording import Recording, read, write
+from galluspa.process.cli import Refused
+from tests.programs import randomly
+from tests.programs.trial import Case
+from tests.support import TOP
+
+# How many shards a recording is divided into, and how many each of the held ones.
+DIVISIONS = (1, 2, 2, 3, 3, 4, 5, 7, 16)
+HELD_DIVISIONS = (1, 2, 3, 7, 16, 33)
+STATUSES = {"holds": 0, "fails": 1, "refused": 2}
+EXAMPLES = TOP / "examples"
+
+
+@dataclass(frozen=True)
+class Text:
+    """The bytes of a recording, or of what is refused as one, by a name."""
+
+    name: str
+    content: bytes
+
+
+@dataclass(frozen=True)
+class Said:
+    """What a program prints, and its status."""
+
+    line: str
+    status: int
+
+
+@dataclass(frozen=True)
+class Line:
+    """The line of a shard, in its fields: the digest, the segments from and to, how many there are, what was found, and the line of
+    the recording with its line feed."""
+
+    digest: str
+    start: int
+    end: int
+    last: int
+    found: str
+    said: str
+
+    def __str__(self) -> str:
+        return f"shard {self.digest} {self.start} {self.end} {self.last} {self.found}: {self.said}"
+
+    @staticmethod
+    def read(text: str) -> "Line":
+        """Returns the fields of a line."""
+        fields, _, said = text.partition(": ")
+        word, digest, start, end, last, found = fields.split(" ")
+        assert word == "shard" and found in STATUSES, text
+        return Line(digest, int(start), int(end), int(last), found, said)
+
+
+def asked(program: Path, words: Sequence[str], content: bytes) -> Said:
+    """Returns what the program prints of bytes."""
+    ran = subprocess.run([program, *words], input=content, stdout=subprocess.PIPE, check=False)
+    return Said(ran.stdout.decode("ascii", "replace"), ran.returncode)
+
+
+def lines_of(program: Path, text: Text, of: int) -> list[str]:
+    """Returns the lines of all shards of a division."""
+    said = [asked(program, ["check", "--shard", f"{k}/{of}"], text.content) for k in range(1, of + 1)]
+    assert all(not it.status for it in said), (text.name, of, said)
+    return [it.line for it in said]
+
+
+def combined(program: Path, lines: Sequence[str]) -> Said:
+    """Returns what the program makes of lines."""
+    return asked(program, ["combine"], "".join(lines).encode())
+
+
+def expected(lines: Sequence[str]) -> Said:
+    """Returns what true lines of one file combine to, if some may be missing."""
+    if not lines:
+        return Said("shards refused 3 empty\n", 2)
+    shards = [Line.read(it) for it in lines]
+    at, last = 0, shards[0].last
+    decides = next((it for it in shards if it.found == "refused"), None)
+    while not decides and at < last:
+        shard = next((it for it in shards if it.start <= at < it.end), None)
+        if not shard:
+            end = min((it.start for it in shards if at < it.start < it.end), default=last)
+            return Said(f"shards refused 6 missing segments {at} to {end - 1}\n", 2)
+        decides, at = (None if shard.found == "holds" else shard), shard.end
+    decides = decides or next(it for it in shards if it.found == "holds")
+    return Said(decides.said, STATUSES[decides.found])
+
+
+def problems(program: Path, text: Text, divisions: Sequence[int], other: str, rng: Random) -> Iterator[str]:
+    """Yields what is wrong with the shards of a recording; `other` is the line of a shard of another file."""
+    alone = asked(program, ["check"], text.content)
+    first, *more = (lines_of(program, text, of) for of in divisions)
+    lines = [*first, *(it for division in more for it in rng.sample(division, rng.randint(0, len(division)))), rng.choice(first)]
+    rng.shuffle(lines)
+    for some, wanted in (
+        (lines, alone),
+        (first, alone),
+        (fewer := rng.sample(lines, rng.randint(0, len(lines))), expected(fewer)),
+        *_refused(lines, other, rng),
+    ):
+        said = combined(program, some)
+        if said.status != wanted.status or not said.line.startswith(wanted.line):
+            yield f"{text.name}, in {', '.join(map(str, divisions))} shards: {said} in place of {wanted} of {''.join(some)}"
+
+
+def _refused(lines: Sequence[str], other: str, rng: Random) -> Iterator[tuple[Sequence[str], Said]]:
+    """Yields lines that are refused, and how the answer begins: one is of another file, one is cut, or one contradicts another."""
+    at = rng.randint(1, len(lines))
+    yield [*lines[:at], other, *lines[at:]], Said(f"shards refused 4 file at line {at + 1}\n", 2)
+    yield [*lines[:at], lines[0][: rng.randrange(1, len(lines[0]))]], Said(f"shards refused 2 syntax at line {at + 1}\n", 2)
+    lies = [str(lie) for lie in _lies(rng.choice([Line.read(it) for it in lines]))]
+    yield [*lines[:at], rng.choice(lies), *lines[at:]], Said("shards refused 5 contradiction of lines ", 2)
+
+
+def _lies(it: Line) -> Iterator[Line]:
+    """Yields lines that are not true of any file of which this one is: of other totals, another finding or another line."""
+    yield replace(it, last=it.last + 1)
+    if it.found == "refused":
+        yield replace(it, said="refused 99 unknown at byte 0\n")
+        yield replace(it, found="holds", said="accepted 0 checkpoints 0 steps\n")
+        return
+    yield replace(it, start=0, end=0, last=0, found="refused", said="refused 1 short at byte 0\n")
+    if it.found == "fails" or it.start < it.end:
+        yield replace(it, found="fails", said=f"false checkpoint {it.end} at 99999999999 part R0\n")
+    if it.found == "fails":
+        yield replace(it, found="holds", said=f"accepted {it.last} checkpoints 99999999999 steps\n")
+    else:
+        yield replace(it, said=f"accepted {it.last} checkpoints 99999999999 steps\n")
+
+
+def held() -> Iterator[Text]:
+    """Yields recordings that are always tried: the examples, some with false claims, and some bytes that are none."""
+    paths = [*sorted(EXAMPLES.glob("*.orsr")), *sorted((EXAMPLES / "suite").rglob("*.orsr"))[:25]]
+    yield from (Text(str(path.relative_to(EXAMPLES)), path.read_bytes()) for path in paths)
+    face = (EXAMPLES / "face.orsr").read_bytes()
+    for at, register in ((1, 2), (2, 5), (4, 3)):
+        yield Text(f"face.orsr with checkpoint {at} false", write(_claiming(read(face), at, register)))
+    yield from (
+        Text(name, it) for name, it in (("nothing", b""), ("cut", face[:-1]), ("longer", face + b"x"), ("named", b"X" + face[1:]))
+    )
+
+
+def _claiming(it: Recording, at: int, register: int) -> Recording:
+    """Returns a recording of which a checkpoint claims another value of a register."""
+    claim = it.checkpoints[at]
+    registers = [value ^ (number == register) for number, value in enumerate(claim.registers)]
+    checkpoints = [*it.checkpoints[:at], replace(claim, registers=tuple(registers)), *it.checkpoints[at + 1 :]]
+    return replace(it, checkpoints=checkpoints)
+
+
+def random_text(program: Path, seed: int) -> tuple[Text, Random]:
+    """Returns the recording of a random program with random checkpoints, in a version: a third as it is, a third with false claims, and
+    a third with a byte changed, cut or added; and the source of what is random about it."""
+    rng = Random(seed)
+    case: Case = randomly.case(seed)
+    counts = sorted(rng.sample(range(1, case.counts + 1), rng.choice((1, 2, 3, 5, 8, 13, 30))))
+    said = subprocess.run(
+        [program, "record"],
+        input=replace(case.session, checkpoints=counts).text().encode(),
+        stdout=subprocess.PIPE,
+        check=True,
+    )
+    it = read(said.stdout)
+    # A timer that counts is of version 2 alone.
+    if not case.session.rate and rng.random() < 0.8:
+        it = replace(it, version=1)
+    kind = ("true", "false", "changed")[seed % 3]
+    if kind == "false":
+        for _ in range(rng.randint(1, 3)):
+            it = _claiming(it, rng.randint(1, len(counts)), rng.randrange(16))
+    content = write(it)
+    if kind == "changed":
+        at = rng.randrange(len(content))
+        content = rng.choice((content[:at], content[:at] + rng.randbytes(1) + content[at + 1 :], content + rng.randbytes(1)))
+    return Text(f"seed {seed}, {kind}, version {it.version}", content), rng
+
+
+@dataclass(frozen=True)
+class Tried:
+    """What was tried of a recording: how its line begins, and what is wrong."""
+
+    begins: str
+    problems: list[str]
+
+
+def tried(program: Path, text: Text, divisions: Sequence[int], rng: Random) -> Tried:
+    """Returns what comes of a recording in these divisions."""
+    other = lines_of(program, Text("another", text.content + b"another"), 1)[0]
+    begins = asked(program, ["check"], text.content).line.split()[0]
+    version = int.from_bytes(text.content[4:8], "little")
+    return Tried(f"{begins} of version {version}", list(problems(program, text, divisions, other, rng)))
+
+
+def tried_seed(program: Path, seed: int) -> Tried:
+    """Returns what comes of a random recording in random divisions."""
+    text, rng = random_text(program, seed)
+    return tried(program, text, [rng.choice(DIVISIONS) for _ in range(rng.randint(1, 2))], rng)
+
+
+def tried_held(program: Path, text: Text) -> Tried:
+    """Returns what comes of a held recording, in each of the held divisions with another beside it."""
+    rng = Random(text.name)
+    all_tried = [tried(program, text, [of, rng.choice(DIVISIONS)], rng) for of in HELD_DIVISIONS]
+    return Tried(all_tried[0].begins, [problem for it in all_tried for problem in it.problems])
+
+
+def expect_to_notice(program: Path, folder: Path) -> None:
+    """Sees that a program is noticed which combines lines to that of the first, and one that holds each of its shards for true."""
+    false = next(text for text in held() if "checkpoint 2 false" in text.name)
+    for words in ("sed -n '1s/.*: //p'", f"sed 's/fails: .*/holds: accepted 4 checkpoints 20000000 steps/' | {program} combine"):
+        mistaken = folder / "mistaken"
+        mistaken.write_text(f'#!/bin/sh\n[ "$1" = combine ] || exec {program} "$@"\n{words}\n')
+        mistaken.chmod(0o755)
+        if not tried_held(mistaken, false).problems:
+            raise Refused(f"a combination by {words!r} is not noticed")

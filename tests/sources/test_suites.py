@@ -1,0 +1,146 @@
+"""The parts that tests/run starts: how their arguments choose tests; and what tests/alongside says of what it runs."""
+
+import shutil
+from importlib import import_module
+from importlib.machinery import SourceFileLoader
+from importlib.util import module_from_spec, spec_from_loader
+from pathlib import Path
+from types import ModuleType
+
+import pytest
+
+from tests.page import closing, leaving
+from tests.page.parts import PARTS
+from tests.support.parts import PROGRAMS, SCRIPTS, SUITES, page_words
+from tests.support.suites import chosen, processes
+from tests.tools.samples import TOP, run
+
+TOOLS = TOP / "tests/tools"
+FILM = str(TOOLS / "test_film.py")
+PARTS_OF_GATE = ("programs", "library", "page", "tools")
+STUBS = ("tests/refused-growth", "tests/loop-cost", "tests/run", "./galluspa")
+COMMANDS = (
+    *("tests/refused-growth", "tests/loop-cost", "./galluspa build-library --as-built"),
+    *(f"tests/run {part}" for part in PARTS_OF_GATE),
+)
+
+
+@pytest.mark.parametrize(
+    ("arguments", "wanted"),
+    [
+        ([], [str(TOOLS)]),
+        (["test_film"], [FILM]),
+        (["test_film.FilmTest.test_helps", "-x"], [f"{FILM}::FilmTest::test_helps", "-x"]),
+        (["-k", "test_film"], ["-k", "test_film", str(TOOLS)]),
+        (["-n", "0", "test_film"], ["-n", "0", FILM]),
+        (["test_none"], ["test_none", str(TOOLS)]),
+    ],
+)
+def test_names_choose_tests(arguments: list[str], wanted: list[str]) -> None:
+    """A file goes by its name, and the value of an option is no name."""
+    assert chosen(TOOLS, arguments) == wanted
+
+
+@pytest.mark.parametrize(
+    ("arguments", "wanted"),
+    [
+        ([], ["-n", "4", "--dist", "loadfile"]),
+        (["-k", "x"], ["-n", "4", "--dist", "loadfile"]),
+        (["-n", "0"], []),
+        (["-s"], []),
+        (["-n2"], []),
+    ],
+)
+def test_processes(arguments: list[str], wanted: list[str]) -> None:
+    """Tests run side by side, unless an argument says otherwise or their output is to be seen."""
+    assert processes(arguments, 4, "loadfile") == wanted
+
+
+def script(name: str) -> ModuleType:
+    """Returns a script of tests/ as a module."""
+    spec = spec_from_loader(name, SourceFileLoader(name, str(TOP / "tests" / name)))
+    assert spec and spec.loader
+    module = module_from_spec(spec)
+    spec.loader.exec_module(module)
+    return module
+
+
+def test_parts_of_the_page() -> None:
+    """The name of a part is an option, but not as the value of another; pytest gets a file in one word with its option."""
+    words = ["--module", "page.wasm", "timeline", "-k", "kept", "--part", "game", "build"]
+    assert page_words(words) == [
+        "--module=page.wasm",
+        "--part=timeline",
+        "-k",
+        "kept",
+        "--part=game",
+        "--part=build",
+    ]
+
+
+def test_each_part_is_listed_and_there() -> None:
+    """Without a name the parts are listed, and a name that is none of theirs is refused; a folder or a script of tests/ is each."""
+    ran, listed = run([TOP / "tests/run", "nothing"]), run([TOP / "tests/run"]).output.decode()
+    assert (ran.status, ran.errors.startswith("tests/run: nothing is none of sources, ")) == (1, True)
+    names = [*SUITES, PROGRAMS, *SCRIPTS]
+    assert [line.split()[0] for line in listed.splitlines() if line.startswith("  ")] == names
+    assert [name for name in names if not (TOP / "tests" / name).exists()] == []
+
+
+def test_all_tasks_of_the_page_belong_to_a_part() -> None:
+    """No module has tasks that `tests/run page` does not do."""
+    modules = [path.stem for path in sorted((TOP / "tests/page").glob("*.py")) if "\nTASKS = " in path.read_text()]
+    tasks = {task for name in modules for task in import_module(f"tests.page.{name}").TASKS}
+    assert len(modules) > 5
+    assert tasks - {task for done in PARTS.values() for task in done} == {*closing.TASKS, *leaving.TASKS}
+
+
+def alongside(folder: Path, lines: str) -> tuple[list[str], int]:
+    """Returns what tests/alongside prints beside these lines of `rt ci`, over scripts that only print their names; and its
+    status."""
+    for name in STUBS:
+        path = folder / name
+        path.parent.mkdir(exist_ok=True)
+        path.write_text(f"#!/bin/sh\necho out of {name} $*\n")
+        path.chmod(0o755)
+    shutil.copy(TOP / "tests/alongside", folder / "tests/alongside")
+    ran = run([folder / "tests/alongside"], lines.encode())
+    return ran.output.decode().splitlines(), ran.status
+
+
+def test_what_runs_alongside_is_said(tmp_path: Path) -> None:
+    """First all that will run and after what, then where each begins and ends, and at the end what each printed."""
+    crates = ("risc_search", "oberon_answers", "oberon_replay", "refused_growth", "galluspa")
+    said, status = alongside(tmp_path, "".join(f"rt: {name} proved\n" for name in crates) + "3 passed, 0 failed\n")
+    assert status == 0
+    assert said[:2] == [
+        "alongside: once oberon_replay and refused_growth are built: tests/refused-growth",
+        "alongside: once oberon_answers and risc_search are built (and, after the first, galluspa and oberon_replay): "
+        "./galluspa build-library --as-built, tests/loop-cost, tests/run page; "
+        "then, side by side, tests/run programs, tests/run library, tests/run tools",
+    ]
+    for command in COMMANDS:
+        begins = said.index(f"alongside: {command} begins")
+        ends = next(at for at, line in enumerate(said) if line.startswith(f"alongside: {command}: exit status 0, "))
+        assert begins < ends < said.index(f"out of {command}")
+
+
+def test_what_does_not_run_alongside_is_not_said(tmp_path: Path) -> None:
+    """A script whose crates were not built does not begin, and a gate that fails ends with status 0, for `pipefail`."""
+    said, status = alongside(tmp_path, "rt: oberon_replay proved\n1 passed, 1 failed\n")
+    assert status == 0
+    assert [line for line in said if line.endswith(" begins")] == []
+
+
+def test_what_waits_for_more_crates_is_not_begun_without_them(tmp_path: Path) -> None:
+    """After the library is built, the tests wait for the program, too; a gate that ends without it ends them, and one that says that all
+    is well is not believed."""
+    crates = ("risc_search", "oberon_answers", "oberon_replay", "refused_growth")
+    lines = "".join(f"rt: {name} proved\n" for name in crates)
+    said, status = alongside(tmp_path, f"{lines}3 passed, 1 failed\n")
+    assert status == 0
+    assert "alongside: tests/loop-cost begins" not in said
+    said, status = alongside(tmp_path, f"{lines}3 passed, 0 failed\n")
+    assert status == 1
+    assert "alongside: tests/loop-cost begins" not in said
+    assert "alongside: rt ci has not said that it built galluspa, oberon_replay" in said

@@ -1,0 +1,513 @@
+"""Drives a headless Chromium over a pipe, with the DevTools protocol: opens pages, evaluates, clicks, types and takes
+pictures. WebDriver has no timed touches, no composed characters, and no browser that is killed and opened again.
+Browser, page and pipe know each other, so this is one module of more than 400 lines.
+"""
+
+import base64
+import gzip
+import hashlib
+import json
+import os
+import re
+import select
+import subprocess
+import tempfile
+import time
+from collections.abc import Iterator
+from contextlib import contextmanager
+from dataclasses import dataclass
+from pathlib import Path
+from typing import IO, Any
+
+FLAGS = (
+    "--headless=new",
+    "--no-sandbox",
+    "--disable-gpu",
+    "--hide-scrollbars",
+    "--no-first-run",
+    "--disable-extensions",
+    "--disable-background-networking",
+    "--host-resolver-rules=MAP * ~NOTFOUND, EXCLUDE 127.0.0.1",
+    "--force-device-scale-factor=1",
+)
+
+WIDTHS = (420, 800, 1100, 1280, 1920)
+
+# The numbers of keys that do something in a page.
+NUMBERS = {"Backspace": 8, "Tab": 9, "Enter": 13, " ": 32, "ArrowUp": 38, "ArrowDown": 40, "Delete": 46}
+
+# The script of the live page is one function, with no global names. The driver opens a copy of the page in which that function has one line
+# more, so that what is asked of the page is evaluated inside.
+SCRIPT = re.compile(r'(?<=id="g-main">)[^<]*(?=</script>)')
+SCRIPT_END = re.compile(r"\}\)\(\);\s*$")
+INSIDE = "globalThis.inside = (text) => eval(text);\n"
+# What a test sees of a page by its elements.
+SEEN = Path(__file__).with_name("seen.js").read_text()
+
+# Seconds that a wait takes at most. They are many, since a wait ends when what it waits for is there.
+PATIENCE = 120
+
+# What the browser traces, so that it is known how long tasks take, and the thread of a page.
+TRACED = {"includedCategories": ["disabled-by-default-devtools.timeline"], "excludedCategories": ["*"]}
+TASK, MAIN_THREAD = "RunTask", "CrRendererMain"
+
+# Seconds that a page whose test failed has to show itself once more.
+LAST_PATIENCE = 20
+
+# What is wrong with how the blocks of a page lie that are seen: a page or a block too wide, and two blocks that overlap.
+FAULTS = """
+(() => {
+  const told = [];
+  const page = document.documentElement;
+  for (const it of document.querySelectorAll(".checkpoint, .case, pre")) it.style.contentVisibility = "visible";
+  if (page.scrollWidth > innerWidth) told.push(`the page is ${page.scrollWidth} wide`);
+  const blocks = [...document.querySelectorAll("h1, h2, h3, p, pre, table, dl > div, img, figcaption")].filter((it) => it.checkVisibility());
+  const boxes = blocks.map(it => it.getBoundingClientRect());
+  blocks.forEach((one, at) => {
+    const a = boxes[at];
+    if (a.right > innerWidth || one.scrollWidth > one.clientWidth + 1) told.push(`too wide: ${one.outerHTML.slice(0, 60)}`);
+    blocks.slice(0, at).forEach((other, before) => {
+      const b = boxes[before];
+      const wide = Math.min(a.right, b.right) - Math.max(a.left, b.left);
+      const high = Math.min(a.bottom, b.bottom) - Math.max(a.top, b.top);
+      if (wide > 0.5 && high > 0.5) told.push(`${other.outerHTML.slice(0, 60)} overlaps ${one.outerHTML.slice(0, 60)}`);
+    });
+  });
+  return told;
+})()
+"""
+
+
+class Pipe:
+    """The pipe to a browser: what it is asked, and what it tells."""
+
+    def __init__(self, to_browser: int, from_browser: int, errors: IO[bytes]) -> None:
+        self._to = to_browser
+        self._from = from_browser
+        self._errors = errors
+        self._rest = b""
+        self._asked = 0
+        # The pages that are open, and the seconds that they have to answer, if there is a limit.
+        self.pages: list[Page] = []
+        self.limit: float | None = None
+        # The files that pages began to save, by the browser's names for the downloads: their own names, and which of them are whole.
+        self.begun: dict[str, str] = {}
+        self.whole: set[str] = set()
+
+    def send(self, message: dict[str, Any]) -> int:
+        """Asks something, and gives the number by which the answer will be known."""
+        self._asked += 1
+        rest = json.dumps({"id": self._asked, **message}).encode() + b"\0"
+        try:
+            while rest:
+                rest = rest[os.write(self._to, rest) :]
+        except BrokenPipeError as error:
+            raise RuntimeError(f"the browser ended; it said: {self._said()}") from error
+        return self._asked
+
+    def receive(self) -> dict[str, Any]:
+        """Returns the next thing that is told."""
+        while b"\0" not in self._rest:
+            if not select.select([self._from], [], [], self.limit)[0]:
+                raise RuntimeError(f"the browser says nothing for {self.limit} seconds")
+            more = os.read(self._from, 1 << 20)
+            if not more:
+                raise RuntimeError(f"the browser ended; it said: {self._said()}")
+            self._rest += more
+        message, _, self._rest = self._rest.partition(b"\0")
+        told: dict[str, Any] = json.loads(message)
+        return told
+
+    def _said(self) -> str:
+        self._errors.seek(0)
+        return self._errors.read()[-2000:].decode(errors="replace")
+
+
+def policy_of(script: str) -> str:
+    """Returns the hash by which a policy lets a script run."""
+    return f"sha256-{base64.b64encode(hashlib.sha256(script.encode()).digest()).decode()}"
+
+
+def opened_inside(text: str) -> str:
+    """Returns a page whose script also evaluates what it is asked, or the page as it is if it is not the live page."""
+    found = SCRIPT.search(text)
+    if not found:
+        return text
+    own = gzip.decompress(base64.b64decode(found[0])).decode()
+    script = SCRIPT_END.sub(lambda end: INSIDE + end[0], own)
+    # Without the quotation marks, which a report escapes.
+    changed = text.replace(found[0], base64.b64encode(gzip.compress(script.encode())).decode())
+    return changed.replace(policy_of(own)[1:-1], policy_of(script)[1:-1])
+
+
+class Page:
+    """A page that is open, and what its console and its network told."""
+
+    def __init__(self, pipe: Pipe, path: Path) -> None:
+        self._pipe = pipe
+        text = path.read_text()
+        inside = opened_inside(text)
+        self._copy = tempfile.TemporaryDirectory(ignore_cleanup_errors=True)
+        self._is_inside = inside != text
+        if self._is_inside:
+            path = Path(self._copy.name) / path.name
+            path.write_text(inside)
+        self._session = ""
+        self._chooser = 0
+        self.errors: list[str] = []
+        self.requests: list[str] = []
+        # The kinds of the windows that the page or the browser opened to ask something; each is answered with yes, or with no.
+        self.dialogs: list[str] = []
+        self._says_yes = True
+        self._is_gone = False
+        self._is_timed = False
+        # What the browser traced, and whether it told all of it.
+        self._traced: list[dict[str, Any]] = []
+        self._is_traced = True
+        self._target = self._ask("Target.createTarget", url="about:blank")["targetId"]
+        self._session = self._ask("Target.attachToTarget", targetId=self._target, flatten=True)["sessionId"]
+        for domain in ("Page", "Runtime", "Log", "Network", "Inspector"):
+            self._ask(f"{domain}.enable")
+        self._ask("Page.addScriptToEvaluateOnNewDocument", source=SEEN)
+        self.url = path.resolve().as_uri()
+        self._ask("Page.navigate", url=self.url)
+        self._wait_for_load()
+        pipe.pages.append(self)
+
+    def answer(self, expression: str) -> Any:
+        """Returns the value of an expression of JavaScript in the page; promises are waited for."""
+        if self._is_inside:
+            expression = f"(globalThis.inside ?? eval)({json.dumps(expression)})"
+        told = self._ask("Runtime.evaluate", expression=expression, awaitPromise=True, returnByValue=True)
+        if "exceptionDetails" in told:
+            raise RuntimeError(told["exceptionDetails"])
+        return told["result"].get("value")
+
+    def resize(self, width: int, height: int) -> None:
+        """Gives the window a size."""
+        self._ask("Emulation.setDeviceMetricsOverride", width=width, height=height, deviceScaleFactor=1, mobile=False)
+
+    def prefer(self, scheme: str) -> None:
+        """Lets the reader prefer a color scheme: light or dark."""
+        self._ask("Emulation.setEmulatedMedia", features=[{"name": "prefers-color-scheme", "value": scheme}])
+
+    def screenshot(self, width: int, height: int) -> bytes:
+        """Returns a picture of the page in a window of this size, as PNG."""
+        self.resize(width, height)
+        self.answer("Promise.all([...document.images].map(it => it.decode()))")
+        return base64.b64decode(self._ask("Page.captureScreenshot", format="png")["data"])
+
+    def printed(self) -> bytes:
+        """Returns the page as a printer would get it, as PDF."""
+        return base64.b64decode(self._ask("Page.printToPDF", printBackground=False)["data"])
+
+    def leave(self, path: Path) -> None:
+        """Writes the whole page as it is seen to PATH.png, and what its console said to PATH.txt."""
+        path.with_suffix(".txt").write_text("".join(f"{line}\n" for line in (self.url, *self.errors)))
+        clip = {**self._ask("Page.getLayoutMetrics")["cssContentSize"], "scale": 1}
+        picture = self._ask("Page.captureScreenshot", format="png", captureBeyondViewport=True, clip=clip)["data"]
+        path.with_suffix(".png").write_bytes(base64.b64decode(picture))
+
+    def wait(self, expression: str, moving: str = "0") -> None:
+        """Waits until an expression is true. The patience is for a machine that does much else: it ends where for two minutes neither the
+        expression became true nor the value of `moving` another."""
+        seen: object = None
+        end = time.monotonic() + PATIENCE
+        while not self.answer(f"Boolean({expression})"):
+            if (now := self.answer(moving)) != seen:
+                seen, end = now, time.monotonic() + PATIENCE
+            if time.monotonic() > end:
+                raise RuntimeError(f"after {PATIENCE} seconds it is not so that {expression}")
+            time.sleep(0.03)
+
+    def choose(self, selector: str, path: Path) -> None:
+        """Chooses a file in the file input of a selector."""
+        root = self._ask("DOM.getDocument")["root"]["nodeId"]
+        node = self._ask("DOM.querySelector", nodeId=root, selector=selector)["nodeId"]
+        self._ask("DOM.setFileInputFiles", nodeId=node, files=[str(path.resolve())])
+
+    def point(self, kind: str, x: float, y: float, buttons: int = 0) -> None:
+        """Moves the mouse (`mouseMoved`), or presses or releases its left key (`mousePressed`, `mouseReleased`)."""
+        button: dict[str, object] = {"button": "none"} if kind == "mouseMoved" else {"button": "left", "clickCount": 1}
+        self._ask("Input.dispatchMouseEvent", type=kind, x=x, y=y, buttons=buttons, **button)
+
+    def point_with(self, kind: str, x: float, y: float, buttons: int, modifiers: int, clicks: int = 1) -> None:
+        """Does as `point` does, with keys such as Shift held down, as a part of the first or a later one of several clicks."""
+        button: dict[str, object] = {
+            "button": "none" if kind == "mouseMoved" and not buttons else "left",
+            "clickCount": 0 if kind == "mouseMoved" else clicks,
+        }
+        self._ask("Input.dispatchMouseEvent", type=kind, x=x, y=y, buttons=buttons, modifiers=modifiers, **button)
+
+    def turn_wheel(self, x: float, y: float, down: float, ctrl: bool = False) -> None:
+        """Turns the wheel of the mouse over a place, with Ctrl held down or not."""
+        self._ask("Input.dispatchMouseEvent", type="mouseWheel", x=x, y=y, deltaX=0, deltaY=down, modifiers=2 if ctrl else 0)
+
+    def send_mouse(self, kind: str, x: float, y: float, at: float, buttons: int = 0) -> None:
+        """Does as `point` does, at a time in seconds since 1970, and does not wait until the page has seen it."""
+        button = {"button": "none"} if kind == "mouseMoved" and not buttons else {"button": "left"}
+        clicks = {} if kind == "mouseMoved" else {"clickCount": 1}
+        parameters = {"type": kind, "x": x, "y": y, "buttons": buttons, "timestamp": at, **button, **clicks}
+        self._pipe.send({"method": "Input.dispatchMouseEvent", "params": parameters, "sessionId": self._session})
+
+    def use_touch(self, is_on: bool) -> None:
+        """Gives the window a touch screen for two fingers, or takes it away."""
+        self._ask("Emulation.setTouchEmulationEnabled", enabled=is_on, maxTouchPoints=2)
+
+    def touch(self, kind: str, *fingers: tuple[float, float]) -> None:
+        """Puts fingers down (`touchStart`), moves those that are down (`touchMove`), or lifts all (`touchEnd`): each has an x and a y."""
+        points = [{"x": x, "y": y, "id": number} for number, (x, y) in enumerate(fingers)]
+        self._ask("Input.dispatchTouchEvent", type=kind, touchPoints=points)
+
+    def tap(self, x: float, y: float) -> None:
+        """Taps on a place: for a twentieth of a second, however long the browser takes to see it."""
+        now = time.time()
+        for kind, points, at in (("touchStart", [{"x": x, "y": y, "id": 0}], now), ("touchEnd", [], now + 0.05)):
+            parameters = {"type": kind, "touchPoints": points, "timestamp": at}
+            self._pipe.send({"method": "Input.dispatchTouchEvent", "params": parameters, "sessionId": self._session})
+
+    def insert(self, text: str) -> None:
+        """Inserts a text where the focus is, as pasting and input methods do."""
+        self._ask("Input.insertText", text=text)
+
+    def compose(self, begun: str, text: str) -> None:
+        """Composes a text where the focus is, as a dead key and the key after it do."""
+        self._ask("Input.imeSetComposition", text=begun, selectionStart=len(begun), selectionEnd=len(begun))
+        self._ask("Input.insertText", text=text)
+
+    def press(self, key: str, code: str = "", modifiers: int = 0, number: int = 0) -> None:
+        """Presses and releases a key; one character is its text."""
+        text = {"text": "\r" if key == "Enter" else key} if len(key) == 1 or key == "Enter" else {}
+        common = {"key": key, "code": code or key, "modifiers": modifiers, "windowsVirtualKeyCode": number or NUMBERS.get(key, 0)}
+        self._ask("Input.dispatchKeyEvent", type="keyDown" if text else "rawKeyDown", **common, **text)
+        self._ask("Input.dispatchKeyEvent", type="keyUp", **common)
+
+    def focused(self) -> tuple[str, str]:
+        """Returns what has the focus: its role and its name, as the browser tells them to a screen reader."""
+        held = self._ask("Runtime.evaluate", expression="document.activeElement")["result"]["objectId"]
+        node = self._ask("Accessibility.getPartialAXTree", objectId=held, fetchRelatives=False)["nodes"][0]
+        return node["role"]["value"], node.get("name", {}).get("value", "")
+
+    def choose_by_key(self, path: Path) -> None:
+        """Presses Enter on a file input, and chooses a file in the window that it opens."""
+        self._ask("Page.setInterceptFileChooserDialog", enabled=True)
+        self._chooser = 0
+        self.press("Enter")
+        while not self._chooser:
+            self._read()
+        self._ask("DOM.setFileInputFiles", backendNodeId=self._chooser, files=[str(path.resolve())])
+        self._ask("Page.setInterceptFileChooserDialog", enabled=False)
+
+    def save_into(self, folder: Path) -> None:
+        """Has files that the page saves go to a folder."""
+        self._ask("Browser.setDownloadBehavior", behavior="allow", downloadPath=str(folder.resolve()), eventsEnabled=True)
+
+    def has_saved(self, name: str) -> bool:
+        """Returns whether a file of this name is saved, and whole; it is said of each file once. The browser reserves a name with
+        an empty file, so that the name is there says nothing."""
+        self.answer("0")  # so that what the browser told meanwhile is read
+        for download in self._pipe.whole & {it for it, other in self._pipe.begun.items() if other == name}:
+            self._pipe.whole.remove(download)
+            return True
+        return False
+
+    def reload(self) -> None:
+        """Loads the page anew."""
+        self._ask("Page.reload")
+        self._wait_for_load()
+
+    def is_kept_open(self) -> bool:
+        """Loads the page anew, and answers no if the browser asks. Returns whether it asked, so that the page is still open."""
+        asked, self._says_yes = len(self.dialogs), False
+        self._pipe.send({"method": "Page.reload", "params": {}, "sessionId": self._session})
+        while len(self.dialogs) == asked:
+            if self._read().get("method") == "Page.loadEventFired":
+                break
+        self._says_yes = True
+        return len(self.dialogs) > asked
+
+    def limit_storage(self, most: int | None = None) -> None:
+        """Gives what the page stores at most `most` bytes, or as many as before."""
+        limit = {} if most is None else {"quotaSize": most}
+        self._ask("Storage.overrideQuotaForOrigin", origin="file://", **limit)
+
+    def _wait_for_load(self) -> None:
+        """Waits until the page is loaded, and its own script unpacked."""
+        while self._read().get("method") != "Page.loadEventFired":
+            pass
+        if self._is_inside:
+            self.wait("globalThis.inside")
+
+    def leave_for(self, url: str) -> None:
+        """Goes to another page."""
+        self._ask("Page.navigate", url=url)
+        while self._read().get("method") != "Page.loadEventFired":
+            pass
+
+    def go_back(self) -> None:
+        """Goes back to the page before."""
+        history = self._ask("Page.getNavigationHistory")
+        self._ask("Page.navigateToHistoryEntry", entryId=history["entries"][history["currentIndex"] - 1]["id"])
+        self._wait_for_load()
+
+    def heap(self) -> float:
+        """Returns the bytes of the page's own script that are in use, garbage left out."""
+        self._ask("HeapProfiler.collectGarbage")
+        used: float = self._ask("Runtime.getHeapUsage")["usedSize"]
+        return used
+
+    def task_seconds(self) -> float:
+        """Returns the processor time that the tasks of the page's own thread took, from the first call on."""
+        if not self._is_timed:
+            self._ask("Performance.enable", timeDomain="threadTicks")
+            self._is_timed = True
+        found = {one["name"]: one["value"] for one in self._ask("Performance.getMetrics")["metrics"]}
+        seconds: float = found["TaskDuration"]
+        return seconds
+
+    @contextmanager
+    def measuring(self) -> Iterator[list[float]]:
+        """Measures the tasks of pages' own threads: once the block is over the list has the milliseconds that each one took of a processor, which
+        are hardly more where much else runs."""
+        found: list[float] = []
+        self._traced, self._is_traced = [], False
+        self._ask("Tracing.start", transferMode="ReportEvents", traceConfig=TRACED)
+        yield found
+        # The end of a task is reported, and its answer comes before that.
+        for _ in range(2):
+            self.answer("new Promise((done) => setTimeout(done))")
+        self._ask("Tracing.end")
+        while not self._is_traced:
+            self._read()
+        named = [it for it in self._traced if it["name"] == "thread_name" and it["args"]["name"] == MAIN_THREAD]
+        own = {(it["pid"], it["tid"]) for it in named}
+        found += [it["tdur"] / 1000 for it in self._traced if it["name"] == TASK and "tdur" in it and (it["pid"], it["tid"]) in own]
+
+    def close(self) -> None:
+        """Closes the page. What the browser asks first is answered."""
+        self._ask("Page.close")
+        while not self._is_gone:
+            self._read()
+        self._pipe.pages.remove(self)
+        self._copy.cleanup()
+
+    def _ask(self, method: str, **parameters: object) -> dict[str, Any]:
+        session = {"sessionId": self._session} if self._session else {}
+        asked = self._pipe.send({"method": method, "params": parameters, **session})
+        while (told := self._read()).get("id") != asked:
+            pass
+        if "error" in told:
+            raise RuntimeError(told["error"])
+        result: dict[str, Any] = told["result"]
+        return result
+
+    def _read(self) -> dict[str, Any]:
+        told = self._pipe.receive()
+        self._note(told.get("method"), told.get("params", {}))
+        return told
+
+    def _note(self, method: str | None, told: dict[str, Any]) -> None:
+        if method == "Runtime.exceptionThrown":
+            self.errors.append(told["exceptionDetails"]["text"])
+        elif method == "Runtime.consoleAPICalled":
+            self.errors.append(str(told["args"]))
+        elif method == "Log.entryAdded":
+            self.errors.append(told["entry"]["text"])
+        elif method == "Target.detachedFromTarget":
+            self._is_gone |= told["sessionId"] == self._session
+        elif method == "Page.javascriptDialogOpening":
+            self.dialogs.append(told["type"])
+            self._pipe.send(
+                {"method": "Page.handleJavaScriptDialog", "params": {"accept": self._says_yes}, "sessionId": self._session}
+            )
+        elif method == "Page.fileChooserOpened":
+            self._chooser = told["backendNodeId"]
+        elif method == "Inspector.targetCrashed":
+            raise RuntimeError("the page crashed")
+        elif method == "Network.requestWillBeSent":
+            self.requests.append(told["request"]["url"])
+        elif method == "Tracing.dataCollected":
+            self._traced += [it for it in told["value"] if it["name"] in ("thread_name", TASK)]
+        elif method == "Tracing.tracingComplete":
+            self._is_traced = True
+        elif method == "Browser.downloadWillBegin":
+            self._pipe.begun[told["guid"]] = told["suggestedFilename"]
+        elif method == "Browser.downloadProgress" and told["state"] == "completed":
+            self._pipe.whole.add(told["guid"])
+
+
+def assert_parts_open(page: Page) -> None:
+    """The three parts of screens that differ are at four times their size, and a click of the mouse on one opens the whole screens."""
+    sizes = page.answer(
+        "[...document.querySelectorAll('.large')].map((it) => [it.naturalWidth, it.naturalHeight, it.width, it.height])"
+    )
+    assert len(sizes) == 3 and all([width, height] == [4 * own, 4 * high] for own, high, width, height in sizes), sizes
+    opened = "[...document.querySelectorAll('.whole figure img')].map((it) => it.checkVisibility())"
+    assert page.answer(opened) == [False] * 3
+    page.answer("document.querySelector('.large').scrollIntoView()")
+    x, y = page.answer("(({ left, top }) => [left + 5, top + 5])(document.querySelector('.large').getBoundingClientRect())")
+    for kind in ("mouseMoved", "mousePressed", "mouseReleased"):
+        page.point(kind, x, y, int(kind == "mousePressed"))
+    assert page.answer(opened) == [True] * 3
+
+
+@dataclass(frozen=True)
+class Browser:
+    """A browser that runs."""
+
+    pipe: Pipe
+    process: subprocess.Popen[bytes]
+
+    def kill(self) -> None:
+        """Ends the browser at once, with no time to do anything more."""
+        self.process.kill()
+        self.process.wait()
+
+    @contextmanager
+    def page(self, path: Path) -> Iterator[Page]:
+        """A file, opened as a page."""
+        opened = Page(self.pipe, path)
+        yield opened
+        opened.close()
+
+    def leave(self) -> None:
+        """Leaves a picture of each page that is open and what its console said in a new folder, and prints where that is."""
+        folder = Path(tempfile.mkdtemp(prefix="galluspa-page-"))
+        self.pipe.limit = LAST_PATIENCE
+        print(f"what the pages showed, and what their consoles said: {folder}")
+        for number, page in enumerate(self.pipe.pages):
+            try:
+                page.leave(folder / f"page-{number}")
+            except (OSError, RuntimeError) as error:
+                print(f"page {number} shows nothing: {error}")
+
+
+@contextmanager
+def browser(profile: Path | None = None) -> Iterator[Browser]:
+    """A browser of its own, with a folder for what it keeps that is there before and stays, or with a new one."""
+    to_browser, from_us = os.pipe()[::-1]
+    to_us, from_browser = os.pipe()[::-1]
+
+    def place_pipes() -> None:
+        read, write = os.dup(from_us), os.dup(to_us)
+        os.dup2(read, 3)
+        os.dup2(write, 4)
+
+    with tempfile.TemporaryDirectory(ignore_cleanup_errors=True) as folder, tempfile.TemporaryFile() as errors:
+        command = ["chromium", *FLAGS, f"--user-data-dir={profile or folder}", "--remote-debugging-pipe"]
+        running = subprocess.Popen(
+            command, preexec_fn=place_pipes, close_fds=False, stdin=subprocess.DEVNULL, stdout=subprocess.DEVNULL, stderr=errors
+        )
+        os.close(from_us)
+        os.close(to_us)
+        found = Browser(Pipe(to_browser, from_browser, errors), running)
+        try:
+            yield found
+        except Exception:
+            found.leave()
+            raise
+        finally:
+            os.close(to_browser)
+            os.close(from_browser)
+            running.terminate()
+            running.wait()

@@ -1,0 +1,192 @@
+"""galluspa profile: instructions, calls and stacks, against a naive look at each instruction."""
+
+import json
+from collections import Counter
+from dataclasses import replace
+from pathlib import Path
+from unittest import mock
+
+from galluspa.analysis import calltree
+from galluspa.analysis.procedures import NO_MODULE, NO_NAME, Procedure
+from galluspa.analysis.profiles import Profile, profile_of
+from galluspa.engine import following
+from galluspa.engine.following import EACH_RISE
+from galluspa.engine.library import Library
+from galluspa.engine.tracing import Run
+from galluspa.formats.recording import WORDS
+from galluspa.formats.symbolfiles import parsed
+from galluspa.formats.symbols import NONE
+from galluspa.output.profileformats import callgrind, difference, folded, text
+from tests.programs import randomly, waiting
+from tests.tools import naivecalls
+from tests.tools.samples import EXAMPLES, TOP, ToolTest, record, run, tool
+from tests.tools.test_navigation import TREES
+
+FRAMES = EXAMPLES / "frames/main.asm"
+STACKS = {
+    "(no_call)": 9,
+    "Shapes.Box": 50,
+    "Shapes.Box;Shapes.Row": 1468,
+    "Shapes.Box;Shapes.Row;Display.Dot": 2240,
+    "Shapes.Box;Shapes.Column": 1468,
+    "Shapes.Box;Shapes.Column;Display.Dot": 2240,
+}
+# Code before the first label runs on into Main, which calls Leaf; and Tail is left by a jump.
+BARE = """
+        MOV SP, 2000H
+        MOV R4, 1000
+Main:   BL Leaf
+        BL Tail
+        SUB R4, R4, 1
+        BGT Main
+Leaf:   ADD R1, R1, 1
+        B LNK
+Tail:   B Leaf
+        start 0
+        checkpoints 92
+"""
+
+
+class ProfileTest(ToolTest):
+    def setUp(self) -> None:
+        super().setUp()
+        self.sym = self.folder / "frames.sym"
+        self.orsr = self.file("frames.orsr", record(tool("assemble", FRAMES, "--symbols", self.sym).output))
+        self.symbols = parsed(self.sym.read_bytes())
+
+    def profile(self, first: int = 0, to: int | None = None, path: Path | None = None, limit: int = EACH_RISE) -> Profile:
+        it = Run.begun(Library.find(None), (path or self.orsr).read_bytes())
+        end = it.counts[-1] if to is None else to
+        return profile_of(it, first, end, self.symbols, limit)
+
+    def test_helps(self) -> None:
+        self.assert_helps("profile")
+
+    def assert_exact(self, first: int, to: int, path: Path | None = None, limit: int = EACH_RISE) -> Profile:
+        """Compares a profile with a naive look at each instruction, and at the calls that are open before it."""
+        found, it = self.profile(first, to, path, limit), Run.begun(Library.find(None), (path or self.orsr).read_bytes())
+        steps = list(it.steps(it.machine(0), to))
+        own, inclusive, calls, edges, sites, stacks = (Counter[object]() for _ in range(6))
+
+        def of(at: int) -> Procedure:
+            return found.procedures.of(at) if at < WORDS else Procedure(WORDS, NO_NAME, NO_MODULE)
+
+        opened = list(naivecalls.stacks(steps, limit))
+        for step, stack, later in zip(steps, opened, opened[1:]):
+            if step.before.count < first:
+                continue
+            own[of(step.before.pc)] += step.word is not None
+            inclusive.update({of(call.to) for call in stack})
+            edges.update({(of(call.at), of(call.to)) for call in stack})
+            sites.update({(call.at, of(call.to)) for call in stack})
+            stacks[";".join(of(call.to).name for call in stack) or "(no call)"] += 1
+            calls.update((call.at, of(call.to)) for call in later[-1:] if call.count == step.before.count)
+        self.assertEqual((found.own, found.instructions), (+own, sum(own.values())))
+        self.assertEqual((+Counter(found.inclusive()), +Counter(found.inclusive_edges())), (inclusive, edges))
+        self.assertEqual((+found.totals.of_sites, found.calls()), (sites, {site: calls[site] for site in {*sites, *calls}}))
+        shown: Counter[str] = Counter()
+        for names, count in found.stacks():
+            shown[";".join(names)] += count
+        self.assertEqual(shown, stacks)
+        return found
+
+    def test_counts_are_those_of_single_steps(self) -> None:
+        for first, to in ((0, 7475), (1000, 5001), (2124, 2124)):
+            self.assert_exact(first, to)
+
+    def test_they_are_those_of_random_programs(self) -> None:
+        """Also where the contexts are added to the totals in parts."""
+        self.symbols = NONE
+        for seed in range(12):
+            for case in (randomly.case(seed), waiting.case(seed)):
+                to = min(case.counts, 900)
+                path = self.file("it.orsr", record(replace(case.session, checkpoints=[to]).text().encode()))
+                for most, first, limit in ((1 << 16, 0, EACH_RISE), (1, to // 3, EACH_RISE), (3, 0, 0)):
+                    with mock.patch.object(calltree, "MOST_CONTEXTS", most), mock.patch.object(following, "TURNS", 5):
+                        self.assert_exact(first, to, path, limit)
+
+    def test_recursion_counts_once(self) -> None:
+        orsr = self.file("trees.orsr", record(tool("assemble", self.file("trees.asm", TREES), "--symbols", self.sym).output))
+        self.symbols = parsed(self.sym.read_bytes())
+        found = self.assert_exact(0, 300, orsr)
+        rows = {it.procedure.name: it for it in found.rows()}
+        self.assertEqual(rows["Tree"].inclusive, sum(rows[name].own for name in ("Tree", "Tree.leaf", "Leaf") if name in rows))
+
+    def test_stacks_are_followed(self) -> None:
+        found = self.profile()
+        self.assertEqual(
+            dict(line.rsplit(" ", 1) for line in folded(found)), {names: str(count) for names, count in STACKS.items()}
+        )
+        rows = {it.procedure.name: (it.own, it.inclusive, it.calls) for it in found.rows()}
+        self.assertEqual(rows["Shapes.Column"], (1468, 3708, 4))
+        self.assertEqual(rows["Main"], (9, 0, 0))
+        self.assertEqual(next(it for it in text(found) if it.endswith("  Main")).split()[3], "-")
+
+    def test_a_profile_from_a_later_count_has_the_calls_that_are_open_there(self) -> None:
+        self.assertTrue(all(line.startswith("Shapes.Box;") for line in folded(self.profile(1000, 1100))))
+
+    def test_a_jump_into_another_procedure_is_no_call(self) -> None:
+        orsr = self.file("bare.orsr", record(tool("assemble", self.file("bare.asm", BARE), "--symbols", self.sym).output))
+        self.symbols = parsed(self.sym.read_bytes())
+        found = self.assert_exact(0, 92, orsr)
+        stacks = dict(line.rsplit(" ", 1) for line in folded(found))
+        self.assertEqual(stacks, {"(no_call)": "42", "Leaf": "20", "Tail": "30"})
+        rows = {it.procedure.name: (it.own, it.inclusive) for it in found.rows()}
+        self.assertEqual([rows[name] for name in ("(no name)", "Main", "Leaf", "Tail")], [(2, 0), (40, 0), (40, 20), (10, 30)])
+
+    def test_callgrind_annotate_reads_it(self) -> None:
+        path = self.file("callgrind.out", "".join(f"{line}\n" for line in callgrind(self.profile(), "frames.orsr")))
+        ran = run(["callgrind_annotate", "--inclusive=yes", "--auto=no", path], cwd=TOP)
+        self.assertEqual((ran.status, ran.errors), (0, ""))
+        told = ran.output.decode()
+        self.assertRegex(told, r"7,475 \(100\.0%\)  PROGRAM TOTALS")
+        self.assertRegex(told, r"3,708 \(49\.6\d%\)  \S*shapes\.asm:Shapes\.Column")
+        path = self.file("later.out", "".join(f"{line}\n" for line in callgrind(self.profile(1000, 1100), "frames.orsr")))
+        ran = run(["callgrind_annotate", "--inclusive=yes", "--auto=no", path], cwd=TOP)
+        self.assertEqual((ran.status, ran.errors), (0, ""))
+        self.assertRegex(ran.output.decode(), r"100 \(100\.0%\)  \S*shapes\.asm:Shapes\.Box")
+
+    def test_differences_are_by_procedure(self) -> None:
+        """Each of eight sides has a dot more: 9 instructions in the loop, and 14 to draw it."""
+        source = self.folder / "frames"
+        source.mkdir()
+        for path in FRAMES.parent.glob("*.asm"):
+            self.file(f"frames/{path.name}", path.read_text().replace("MOV R2, 40", "MOV R2, 41"))
+        other = self.file("other.orsr", record(tool("assemble", source / "main.asm").output))
+        lines = list(difference(self.profile(path=other), self.profile()))
+        self.assertEqual(lines[0], "7,659 instructions here, 7,475 in the other: +184")
+        self.assertEqual(lines[3].split(), ["+112", "4,592", "4,480", "328", "320", "Display.Dot"])
+        self.assertEqual(len(lines), 6)
+
+    def test_the_command_writes_all_formats(self) -> None:
+        page, stacks = self.folder / "it.html", self.folder / "it.txt"
+        ran = tool("profile", self.orsr, "--page", page, "--folded", stacks, "--json")
+        self.assertEqual((ran.status, len(ran.errors.splitlines())), (0, 1), ran.errors)
+        found = json.loads(ran.output)
+        self.assertEqual((found["instructions"], found["procedures"][0]["with callees"]), (7475, 4480))
+        self.assertEqual(found["procedures"][0]["name"], "Display.Dot")
+        self.assertEqual(len(stacks.read_text().splitlines()), len(STACKS))
+        text = page.read_text()
+        self.assertIn("<title>Display.Dot: 2,240 instructions with callees, 30.0 %</title>", text)
+        self.assertNotIn("<script", text)
+
+    def test_many_calls_cost_little(self) -> None:
+        """A call each sixth instruction, in a run of ten million: 3.3 million turns."""
+        source = (
+            "Leaf: ADD R1, R1, 1\nB LNK\nMain: ADD R2, R2, 1\nADD R3, R3, 1\nBL Leaf\nB Main\nstart Main\ncheckpoints 10000000\n"
+        )
+        orsr = self.file("it.orsr", record(tool("assemble", self.file("it.asm", source)).output))
+        with self.takes_at_most(8):
+            ran = tool("profile", orsr, "--json")
+        self.assertEqual([it["with callees"] for it in json.loads(ran.output)["procedures"]], [3_333_333])
+
+    def test_what_is_refused_is_one_line(self) -> None:
+        bare = self.file("bare/it.orsr", self.orsr.read_bytes())
+        self.assert_refused(tool("profile", bare, "--from", 8000), "--from 8000 is after the last checkpoint, which is at 7475")
+        self.assert_refused(tool("profile", bare, "--from", 80, "--to", 7), "--to 7 is before --from 80")
+        self.assert_refused(
+            tool("profile", self.file("bad.orsr", b"x")), "bad.orsr: cannot read checkpoint 0: the bytes are not a recording"
+        )
+        self.assert_refused(tool("profile", self.folder / "none.orsr"), "none.orsr: No such file")
+        full = tool("profile", bare, "--folded", "/dev/full")
+        self.assertEqual((full.status, full.errors), (3, "galluspa profile: /dev/full: No space left on device\n"))

@@ -1,0 +1,307 @@
+"""galluspa rerun: its TAP, its page and its files, and what it refuses."""
+
+import io
+import json
+import os
+from pathlib import Path
+from typing import Any
+from xml.etree import ElementTree
+
+from PIL import Image
+
+from galluspa.analysis.drawing import Mask
+from galluspa.analysis.film import picture
+from galluspa.suites.approvals import dots_differing, pbm_of
+from tests.tools import browser
+from tests.tools.samples import EXAMPLES, JUMP, STORED, Ran, session, tool
+from tests.tools.test_rerun import ECHO, LONGER, RerunsTest, script
+
+
+class OutputTest(RerunsTest):
+    running: browser.Browser
+
+    @classmethod
+    def setUpClass(cls) -> None:
+        cls.running = cls.enterClassContext(browser.browser())
+
+    def two(self) -> tuple[Path, Path]:
+        """Returns an image and a longer one, and two sessions that are approved, of which one is seen differently on the longer."""
+        old, new = self.image("old", ECHO), self.image("new", LONGER)
+        for name, keys in (("a", "Hi"), ("b", "\xc1<")):
+            self.file(f"tests/{name}.rerun.json", script({"key": keys}, {"look": "it", "when": {"still": 100}}))
+        self.rerun("--image", old, "--approve")
+        return old, new
+
+    def test_what_is_approved_is_text_and_pictures(self) -> None:
+        self.two()
+        self.assertEqual((self.tests / "b.approved/sent.txt").read_text(), "\\c1<\n")
+        self.assertEqual((self.tests / "b.approved/looks.txt").read_text(), "it: running, LEDs 3C\n")
+        screen = Image.open(self.tests / "b.approved/it.png")
+        self.assertEqual(
+            (screen.format, screen.size, screen.getpixel((0, 767)), screen.getpixel((1, 767))), ("PNG", (1024, 768), 0, 255)
+        )
+
+    def test_a_picture_that_another_program_wrote_anew_is_the_same(self) -> None:
+        old, _ = self.two()
+        path = self.tests / "a.approved/it.png"
+        before = path.read_bytes()
+        Image.open(path).convert("RGB").save(path)
+        self.assertNotEqual(path.read_bytes(), before)
+        self.rerun("--image", old)
+
+    def test_junit_and_what_changed(self) -> None:
+        old, new = self.two()
+        kept = self.folder / "run.json"
+        self.rerun("--image", old, "--keep", kept)
+        lines = self.rerun("--image", new, "--changed-since", kept, "--junit", self.folder / "it.xml", status=1)
+        self.assertIn("# changed b.rerun.json: screen it", "\n".join(lines))
+        suite = ElementTree.parse(self.folder / "it.xml").getroot()[0]
+        self.assertEqual((suite.get("tests"), suite.get("failures"), suite.get("errors")), ("2", "1", "0"))
+
+    def test_approving_again_says_what_changed_and_removes_what_is_gone(self) -> None:
+        old, new = self.two()
+        self.assertEqual(self.rerun("--image", old, "--approve")[2], "ok 1 - a.rerun.json: approved before (1 look, 2 bytes sent)")
+        self.assertIn(
+            "ok 2 - b.rerun.json: approved now (1 look, 2 bytes sent): screen it", self.rerun("--image", new, "--approve")[3]
+        )
+        self.file("tests/b.rerun.json", script({"key": "A<"}, {"look": "other", "when": {"still": 100}}))
+        self.assertEqual(self.answers("--image", old, status=1), ["no look it, which is approved; look other is not approved"])
+        self.rerun("--image", old, "--approve")
+        self.assertEqual(sorted(it.name for it in (self.tests / "b.approved").iterdir()), ["looks.txt", "other.png", "sent.txt"])
+
+    def test_the_page(self) -> None:
+        _, new = self.two()
+        page_file = self.folder / "page.html"
+        self.rerun("--image", new, "--page", page_file, status=1)
+        with self.running.page(page_file) as page:
+            self.assertEqual(page.errors, [])
+            self.assertEqual(page.answer("document.querySelector('h1').innerText"), "1 of 2 as approved")
+            shown: Any = page.answer("[...document.querySelectorAll('.case.bad figcaption')].map(it => it.textContent.trim())")
+            self.assertEqual(shown, ["it as approved", "it now", "what differs of it"])
+            told: Any = page.answer("[...document.querySelectorAll('.part .caption')].map(it => it.textContent)")
+            self.assertEqual((told[0], told[2]), ("it, approved", "what differs: red is set now, blue was"))
+            browser.assert_parts_open(page)
+            self.assertIn("-\\c1<", page.answer("document.querySelector('.case.bad pre').textContent"))
+            self.assertEqual(page.answer("document.querySelectorAll('.case:not(.bad) img').length"), 1)
+            for width in browser.WIDTHS:
+                page.resize(width, 1000)
+                self.assertEqual(page.answer(browser.FAULTS), [], f"{width} points")
+
+    def test_dots_that_differ(self) -> None:
+        empty = b"P4\n1024 768\n" + bytes(98304)
+        one = bytearray(empty)
+        one[12 + 128 * 767 + 1] = 0x81
+        self.assertEqual(str(dots_differing(empty, bytes(one))), "2 dots from 8,0 to 15,0")
+        self.assertEqual((dots_differing(empty, empty), pbm_of(picture(bytes(one)))), (None, bytes(one)))
+        masked = Mask()
+        masked.add(9, 0, 7, 1)
+        self.assertEqual(str(dots_differing(empty, bytes(one), [masked.bitmap])), "1 dot from 8,0 to 8,0")
+
+
+class RefusalTest(RerunsTest):
+    def told(self, text: str) -> str:
+        """Returns what is answered to a script."""
+        self.file("tests/it.rerun.json", text)
+        (told,) = self.answers(status=1)
+        return told
+
+    def test_helps(self) -> None:
+        self.assert_helps("rerun")
+
+    def test_refuses_bad_arguments(self) -> None:
+        def refused(*words: object) -> Ran:
+            return tool("rerun", *words)
+
+        self.assert_refused(refused(), "FOLDER")
+        self.assert_refused(refused(self.folder / "none"), "neither a folder nor a file")
+        self.assert_refused(refused(self.tests), "no script (.rerun.json), session (.json) or recording (.orsr) in it")
+        self.file("tests/it.orsr", STORED)
+        self.assert_refused(refused(self.tests, "--set", "PC=1"), "use --at and --set with --image")
+        self.assert_refused(refused(self.tests, "--image", self.folder / "none"), "No such file")
+        self.assert_refused(refused(self.tests, "--image", self.file("it.bin", b"1" * (1 << 20) + b"1")), "go beyond the memory")
+        self.assert_refused(
+            refused(self.tests, "--image", self.file("it.json", '{"format": "oberon-session"}')), "session refused 2 shape"
+        )
+        self.file("tests/other.orsr", STORED)
+        self.assert_refused(refused(self.tests, "--script"), "use --script with one session")
+
+    def test_scripts_that_are_none(self) -> None:
+        for text, told in (
+            ("", "not JSON"),
+            ("[" * 100_000, "not JSON"),
+            ("{}", "expected an object with the format galluspa-rerun"),
+            (script(), "events is not an array of one event or more"),
+            (
+                script({"look": "it"}, more=1),
+                "more is not a member of a script: expected format, version, image, patience, mask, events",
+            ),
+            (script({"look": "it"}), "the script names no image"),
+            (script({"look": "it"}, image="../image.json"), "outside the folder"),
+            (script({"look": "it"}, image="/etc/passwd"), "outside the folder"),
+            (script({"look": "it"}, image="none.json"), "none.json: no such file"),
+            (script({"look": "it"}, patience=0), "patience is not a whole number from 1"),
+            (script({}), "events[0] (line 1): an event has none of them: expected one of timer"),
+            (script({"key": 1, "look": "it"}), "events[0] (line 1): an event has key and look: expected one of"),
+            (script({"key": 1}, {"key": 256}), "events[1] (line 1): key is not a whole number from 0 to 255, but 256"),
+            (script({"key": ""}), "events[0] (line 1): key is not a text of one sign"),
+            (script({"key": "\u20ac"}), "each below 256"),
+            (script({"key": True}), "key is not a whole number"),
+            (script({"mouse": 5}), "mouse is not [x, y]"),
+            (script({"mouse": [1024, 0]}), "x of mouse is not a whole number from 0 to 1,023"),
+            (script({"look": "../it"}), 'look is "../it", and the name of a look has'),
+            (script({"look": "a"}, {"look": "A"}), "another look is called A"),
+            (script({"look": "it", "memory": "R1"}), "memory is not an array"),
+            (script({"look": "it", "when": {}}), "when has none of them: expected one of count, after"),
+            (script({"look": "it", "when": {"count": 1, "after": 2}}), "when has count and after: expected one of"),
+            (script({"look": "it", "when": {"count": -1}}), "count of when is not a whole number from 0"),
+            (
+                script({"look": "it", "when": {"polls": "keys"}}),
+                'polls of when is none of timer, switches, mouse, key, serial, but "keys"',
+            ),
+            (script({"look": "it", "what": 1}), "what is not a member of an event: expected one of timer"),
+            (script({"lok": "it"}), "events[0] (line 1): lok is not a member of an event: did you mean look?"),
+            (
+                script({"look": "it"}, {"look": "b", "when": {"stil": 1}}),
+                "events[1] (line 1): stil is not a member of when: did you mean still? expected one of",
+            ),
+            (
+                script({"keys": "abc"}),
+                "keys is not a member of an event: did you mean key? expected one of timer, switches, mouse, key",
+            ),
+            (script({"key": 1, "memory": ["4"]}), "memory is not a member of an event with key: it belongs to a look"),
+            (script({"look": "it", "memory": [5]}), "memory[0] is not a text of one sign or more, each below 256, but 5"),
+            (script({"look": "it", "mask": [[0, 0, 5]]}), "mask[0] is not [x, y, width, height] or the name of a procedure"),
+            (script({"look": "it", "mask": [[1000, 0, 25, 1]]}), "width of mask[0] is not a whole number from 1 to 24, but 25"),
+            (script({"look": "it"}, mask=5), "mask is not an array of at most 100 rectangles and names, but 5"),
+            (script({"look": "it"}, format="rerun"), 'and the version 1: format is "rerun"'),
+            (script({"look": "it"}, version=True), "and the version 1: version is true"),
+            (script("look"), 'an event is not an object, but "look"'),
+            (script({"look": "it", "when": 5}), "when is not an object, but 5"),
+            ('{"format": "galluspa-rerun", "version": 1,\n"x": 0, "events": []}', "x is not a member of a script"),
+            (
+                '{"format": "galluspa-rerun", "version": 1, "events": [\n{"look": "a"},\n\n [],\n]}'.replace(",\n]", "\n]"),
+                "events[1] (line 4): an event is not an object, but an array of 0",
+            ),
+            (script({"look": "it", "\n": 1}), "\\n is not a member"),
+        ):
+            self.assertIn(told, self.told(text), text[:100])
+
+    def test_events_that_ask_for_what_is_not_there(self) -> None:
+        self.file("tests/image.json", json.dumps(session([JUMP], [1])))
+        for event, told in (
+            (
+                {"look": "it", "when": {"condition": "PC=Nowhere"}},
+                "events[0] (line 1): condition of when: PC Nowhere: Nowhere is not a number, and there is no symbol file",
+            ),
+            (
+                {"look": "it", "when": {"count": 3}, "memory": ["Nowhere"]},
+                "events[0] (line 1): memory[0]: ^Nowhere: there is no symbol file, which would have the name Nowhere: expected an address",
+            ),
+            ({"look": "it", "when": {"count": 3}, "memory": ["4", "0,0"]}, "memory[1]: 0,0: '0' is not a number of words"),
+            ({"look": "it", "mask": ["Nowhere"]}, "events[0] (line 1): mask: no symbol is called Nowhere"),
+            (
+                {"look": "it", "when": {"condition": "R0 == ("}},
+                "events[0] (line 1): condition of when: R0 == (^: expected a number",
+            ),
+            (
+                {"look": "it", "when": {"condition": "(" * 99_999}},
+                "events[0] (line 1): condition of when: conditions have at most 20,000 characters",
+            ),
+            (
+                {"look": "it", "when": {"condition": "R0 == R1"}},
+                "events[0] (line 1): condition of when: R0 == R1: no search finds this alone",
+            ),
+            (
+                {"look": "it", "when": {"count": 3}, "memory": ["SP +* 3 /"]},
+                "events[0] (line 1): memory[0]: SP +* 3 ^/: expected + - *",
+            ),
+            (
+                {"look": "it", "when": {"count": 3}, "memory": ["4", "R0 + 100000H"]},
+                "events[0] (line 1): memory[1]: R0 + 100000H is 100000, and an address of memory is below 100000",
+            ),
+        ):
+            self.file("tests/it.rerun.json", script(event, image="image.json"))
+            ran = tool("rerun", self.tests / "it.rerun.json")
+            self.assertIn(told, ran.output.decode())
+            self.assertEqual((ran.status, ran.errors), (1, ""))
+
+    def test_sessions_that_are_none(self) -> None:
+        self.file("tests/a.json", '{"format": "oberon-session", "version": 1}')
+        self.file("tests/b.orsr", STORED[:-1])
+        self.file("tests/c.json", json.dumps(session([JUMP], [5, 4])))
+        self.file("tests/d.json", '{"format": "galluspa-suite-run"}')
+        lines = self.rerun(status=1)
+        self.assertEqual(lines[:3], ["# d.json: no session", "TAP version 13", "1..3"])
+        told = "\n".join(lines)
+        for line in ("a.json: session refused 2 shape", "b.orsr: refused 1 short", "c.json: session refused 4 order"):
+            self.assertIn(line, told)
+
+    def test_golden_files_of_a_stranger(self) -> None:
+        self.file("tests/it.json", (EXAMPLES / "keys.json").read_bytes())
+        self.rerun("--approve")
+        approved = self.tests / "it.approved"
+        for name, content, told in (
+            ("looks.txt", b"", "look end is not approved"),
+            ("looks.txt", b"../../it: running\n", "looks.txt line 1: not a look"),
+            ("looks.txt", b"\xff\x1b[2J\n", "looks.txt line 1: not a look"),
+            ("sent.txt", b"Hi!", "sent.txt does not end with a line feed"),
+            ("sent.txt", b"\x1b[2J\n", 'sent, line 1: "Hi!", approved "\\x1b[2J"'),
+            ("sent.txt", b"x" * (5 << 20), "more than 4,194,306 bytes"),
+            ("end.png", b"", "a golden picture is no PNG"),
+            ("end.png", (approved / "end.png").read_bytes()[:60], "a golden picture"),
+            ("end.png", small_png(), "a golden picture has 3 by 2 dots"),
+        ):
+            before = (approved / name).read_bytes()
+            (approved / name).write_bytes(content)
+            (answer,) = self.answers(status=1)
+            self.assertIn(told, answer)
+            (approved / name).write_bytes(before)
+        self.rerun()
+        (approved / "end.png").unlink()
+        self.assertIn("it.approved/end.png: no such file; --approve writes it", self.answers(status=1)[0])
+        lines = self.rerun("--approve")
+        self.assertIn("approved now (1 look, 3 bytes sent): before, it.approved/end.png: no such file", lines[2])
+        self.rerun()
+
+    def test_links_that_lead_out_of_the_suite_are_not_followed(self) -> None:
+        self.file("tests/it.json", (EXAMPLES / "keys.json").read_bytes())
+        (self.folder / "elsewhere").mkdir()
+        (self.tests / "it.approved").symlink_to(self.folder / "elsewhere")
+        self.assertIn("a link that leads out of the suite", self.answers("--approve", status=1)[0])
+        self.assertEqual(list((self.folder / "elsewhere").iterdir()), [])
+
+    def test_pipes_are_neither_read_nor_written(self) -> None:
+        self.file("tests/it.json", (EXAMPLES / "keys.json").read_bytes())
+        for name in ("a.rerun.json", "b.json", "c.orsr", "it.approved/sent.txt"):
+            (self.tests / name).parent.mkdir(exist_ok=True)
+            os.mkfifo(self.tests / name)
+        self.file("tests/it.approved/looks.txt", "end: running, LEDs 21\n")
+        self.file("tests/it.approved/end.png", picture(b"P4\n1024 768\n" + bytes(98304)))
+        lines = self.rerun(status=1)
+        self.assertEqual(lines[:3], ["# b.json: no session", "TAP version 13", "1..3"])
+        told = "\n".join(lines)
+        for line in ("a.rerun.json: not a file", "c.orsr: not a file", "it.approved/sent.txt: no such file"):
+            self.assertIn(line, told)
+        self.assertIn("it.approved/sent.txt: not a file", "\n".join(self.rerun("--approve", status=1)))
+
+    def test_what_cannot_be_written_is_one_line(self) -> None:
+        self.file("tests/it.json", (EXAMPLES / "keys.json").read_bytes())
+        self.file("tests/it.approved", "a file")
+        self.assertEqual(len(self.answers("--approve", status=1)), 1)
+        self.file("file", "")
+        self.assertEqual(len(self.answers("--recordings", self.folder / "file", status=1)), 1)
+        self.assert_refused(tool("rerun", EXAMPLES / "keys.json", "--script", "--image", "/dev/null", "--at", "0x200000"), "--at")
+
+    def test_a_limit_of_time(self) -> None:
+        self.file("tests/it.rerun.json", script({"look": "it", "when": {"sends": "x"}}, image="image.json", patience=1 << 39))
+        self.file("tests/image.json", json.dumps(session([0x40080001, 0xE7FFFFFE], [1])))
+        ran = tool("rerun", self.tests / "it.rerun.json", "--limit", 1)
+        self.assertIn("no answer in 1 s", ran.output.decode())
+        self.assertEqual((ran.status, ran.errors), (1, ""))
+
+
+def small_png() -> bytes:
+    """Returns a PNG of another size."""
+    out = io.BytesIO()
+    Image.new("1", (3, 2)).save(out, "PNG")
+    return out.getvalue()

@@ -1,0 +1,167 @@
+"""galluspa session, both ways."""
+
+import json
+import struct
+
+from galluspa.formats.recording import page_of
+from tests.tools.samples import EXAMPLES, JUMP, PROGRAM, STORED, ToolTest, claim, encoded, record, run, session, tool
+
+# R1 := -56; R0 := the byte at 1024 in memory; it is sent; then a jump to itself.
+PROGRAM_WORDS = (0x5100FFC8, 0x90200000, 0xA0100000, JUMP)
+
+
+class SessionTest(ToolTest):
+    def image(self) -> object:
+        """Returns a memory image with a program at its start and a byte at 1024."""
+        return self.file("memory.bin", page_of(*PROGRAM_WORDS) + b"A")
+
+    def test_helps(self) -> None:
+        self.assert_helps("session")
+
+    def test_makes_a_session_that_is_recorded(self) -> None:
+        inputs = self.file("inputs.csv", "count,kind,value\r\n# keys\n0, timer, 0xFFFFFFFF\n2,key,72\n2,Mouse,0x1000\n")
+        words = ["--memory", self.image(), "--set", "R2=1024", "--set", "flags=NV", "--set", "PC=0", "--set", "H=0x10"]
+        ran = tool("session", *words, "--inputs", inputs, "--checkpoints", "2,0x4")
+        self.assertEqual((ran.status, ran.errors), (0, ""))
+        made = json.loads(ran.output)
+        self.assertEqual(made["start"], {"R": [0, 0, 1024, *[0] * 13], "H": 16, "PC": 0, "flags": 9})
+        self.assertEqual(made["inputs"], [[0, "timer", 0xFFFFFFFF], [2, "key", 72], [2, "mouse", 0x1000]])
+        self.assertEqual([it["at"] for it in made["pages"]], [0, 1])
+        recorded = record(ran.output)
+        self.assertEqual(recorded[-1:], b"A")
+        self.assertEqual(run([PROGRAM], recorded).output, b"accepted 2 checkpoints 4 steps\n")
+
+    def test_a_timer_that_counts_is_said_by_version_2(self) -> None:
+        words = ["--memory", self.image(), "--set", "rate=1000", "--set", "phase=999", "--checkpoints", "1,2001"]
+        ran = tool("session", *words)
+        made = json.loads(ran.output)
+        self.assertEqual((made["version"], made["start"]["rate"], made["start"]["phase"]), (2, 1000, 999))
+        recorded = record(ran.output)
+        self.assertEqual(run([PROGRAM], recorded).output, b"accepted 2 checkpoints 2001 steps\n")
+        listed = tool("report", "--text", self.file("it.orsr", recorded)).output.decode()
+        self.assertIn("timer", listed)
+        self.assertEqual(json.loads(tool("session", "--of", self.file("it.orsr", recorded)).output)["start"], made["start"])
+
+    def test_an_image_lies_where_it_is_told_to(self) -> None:
+        image = self.file("memory.bin", struct.pack("<I", JUMP))
+        for at, place, content in ((0, 0, "ffffffe7"), (1022, 0, "00" * 1022 + "ffff"), (0xFFFFC, 1023, "00" * 1020 + "ffffffe7")):
+            made = json.loads(tool("session", "--memory", image, "--at", at, "--every", 10, "--until", 35).output)
+            self.assertEqual(made["pages"][0], {"at": place, "hex": content})
+            self.assertEqual(made["checkpoints"], [10, 20, 30])
+
+    def test_of_a_recording_comes_its_session(self) -> None:
+        for name in ("hello", "keys", "face"):
+            recorded = record((EXAMPLES / f"{name}.json").read_bytes())
+            ran = tool("session", "--of", self.file("it.orsr", recorded))
+            self.assertEqual(ran.errors, "")
+            self.assertEqual(json.loads(ran.output), json.loads((EXAMPLES / f"{name}.json").read_bytes()))
+            self.assertEqual(record(ran.output), recorded)
+
+    def test_a_long_session_comes_back(self) -> None:
+        inputs = [(count // 3, kind, count % 256) for count, kind in zip(range(1000), ["timer", "key", "serial"] * 334)]
+        recorded = record(session([JUMP], range(1, 200), inputs))
+        self.assertEqual(record(tool("session", "--of", self.file("it.orsr", recorded)).output), recorded)
+
+    def test_says_what_a_session_cannot_say(self) -> None:
+        for name in ("flags", "stop", "timer", "switches", "LEDs", "mouse", "serial"):
+            text = encoded(1, [], [claim(0, {}, **{name.lower(): 1})])
+            ran = tool("session", "--of", self.file("it.orsr", text))
+            if name == "flags":
+                self.assertEqual(json.loads(ran.output)["start"]["flags"], 1)
+            else:
+                self.assert_refused(ran, f"its initial state has {name} other than 0")
+        text = encoded(1, [], [claim(0, {}, keys=b"\x00")])
+        self.assert_refused(tool("session", "--of", self.file("it.orsr", text)), "keys")
+
+    def test_warns_of_an_odd_program_counter(self) -> None:
+        image = self.file("memory.bin", struct.pack("<2I", JUMP, 0))
+        for words, told in (
+            ((), ""),
+            (("--set", "PC=1"), "PC is 1 (it counts words), which is byte 4 (hexadecimal), and the word there is 0"),
+            (("--set", "PC=2"), "PC is 2 (it counts words), which is byte 8, outside the image of the bytes 0 to 7"),
+            (("--at", "0x1000", "--set", "PC=0x1000"), "which is byte 4000, outside the image of the bytes 1000 to 1007"),
+            (("--at", "0x1000", "--set", "PC=0x400"), ""),
+            (("--set", "PC=262144"), "PC is 262,144, beyond the memory"),
+        ):
+            ran = tool("session", "--memory", image, "--checkpoints", 9, *words)
+            self.assertEqual((ran.status, len(ran.errors.splitlines())), (0, bool(told)))
+            self.assertIn(told, ran.errors)
+            self.assertEqual(json.loads(ran.output)["checkpoints"], [9])
+
+    def test_warns_of_an_image_with_the_highest_byte_first(self) -> None:
+        """Of each example, whose right image has no warning, wherever it is loaded."""
+        told = "warning: the words from PC on look like instructions only if the highest byte of each comes first"
+        for source in sorted(EXAMPLES.glob("*.asm")):
+            right = self.folder / f"{source.stem}.bin"
+            self.assertEqual(tool("assemble", source, "--image", right).status, 0)
+            words = right.read_bytes()
+            swapped = b"".join(words[at : at + 4][::-1] for at in range(0, len(words), 4))
+            for at in (0, 0x1000):
+                place = ("--at", at, "--set", f"PC={at // 4}", "--checkpoints", 1)
+                self.assertEqual(tool("session", "--memory", right, *place).errors, "", source)
+                self.assertIn(told, tool("session", "--memory", self.file("it.bin", swapped), *place).errors, source)
+
+    def test_warns_of_a_byte_address(self) -> None:
+        """One outside the image, one where there is 0, and one where there is something else than code."""
+        code, text = (EXAMPLES / "keys.asm").read_text(), "\n    string " + ", ".join(['"This is a text. "'] * 9)
+        for lines, at, pc in (
+            (code, 0x1000, 0x1000),
+            (f"origin 16\n{code}\norigin 400\nword 1", 0, 16),
+            (f"origin 16\n{code}{text}", 0, 16),
+        ):
+            image = self.folder / "it.bin"
+            ran = tool("assemble", self.file("it.asm", lines), "--image", image)
+            self.assertEqual((ran.status, ran.errors), (0, ""))
+            place = ("--memory", image, "--at", at, "--checkpoints", 1)
+            ran = tool("session", *place, "--set", f"PC={pc}")
+            self.assertRegex(ran.errors, f"warning: PC is .*; if it is a byte address, use PC={pc // 4:,}\n$")
+            self.assertEqual(tool("session", *place, "--set", f"PC={pc // 4}").errors, "")
+
+    def test_refuses_bad_input(self) -> None:
+        image = self.image()
+        every = ("--every", 1, "--until", 1)
+        self.assert_refused(tool("session"), "--memory")
+        self.assert_refused(tool("session", "--memory", image), "checkpoints")
+        self.assert_refused(tool("session", "--memory", image, "--every", 5), "--until")
+        self.assert_refused(tool("session", "--memory", image, *every, "--checkpoints", "1"), "name the checkpoints: ")
+        self.assert_refused(tool("session", "--memory", image, "--every", 1, "--until", 5000), "5,000 checkpoints")
+        self.assert_refused(tool("session", "--memory", image, "--every", 9, "--until", 5), "0 checkpoints")
+        self.assert_refused(tool("session", "--memory", image, "--checkpoints", "5,5"), "'5' is not a count from 6")
+        self.assert_refused(tool("session", "--memory", image, "--checkpoints", "5,x"), "'x'")
+        self.assert_refused(tool("session", "--memory", image, "--at", "0xFFFFF", *every), "go beyond the memory")
+        self.assert_refused(tool("session", "--memory", self.folder / "none", *every), "No such file")
+        for assignment in (
+            "R16=0",
+            "R1",
+            "R1=",
+            "R1=0x100000000",
+            "PC=0x400000",
+            "flags=X",
+            "flags=16",
+            "R1=-1",
+            "R1=1_0",
+            "rate=0x100000000",
+        ):
+            self.assert_refused(tool("session", "--memory", image, *every, "--set", assignment), f"--set {assignment}")
+        for rate, phase in ((0, 1), (10, 10)):
+            words = ["--set", f"rate={rate}", "--set", f"phase={phase}"]
+            self.assert_refused(tool("session", "--memory", image, *every, *words), f"phase {phase} is not below")
+        self.assert_refused(tool("session", "--of", self.file("short.orsr", STORED[:-1])), "refused 1 short at byte 9503")
+        self.assert_refused(tool("session", "--of", self.file("it.orsr", STORED), "--set", "R1=1"), "--of takes everything")
+
+    def test_refuses_bad_inputs(self) -> None:
+        for line, told in (
+            ("1,key", "three cells"),
+            ("1,key,256", "'256' is not a value for key"),
+            ("1,mouse,0x800", "mask"),
+            ("1,pen,1", "'pen' is none of timer"),
+            ("x,key,1", "'x' is not a count"),
+            ("4,key,1", "'4' is not a count from 5"),
+            ("0x10000000001,key,1", "not a count"),
+        ):
+            inputs = self.file("inputs.csv", f"count,kind,value\n5,key,1\n{line}\n" if line[0] == "4" else f"{line}\n")
+            ran = tool("session", "--memory", self.image(), "--every", 1, "--until", 1, "--inputs", inputs)
+            self.assert_refused(ran, "inputs.csv line", told)
+        inputs = self.file("inputs.csv", b"\xff\xfe\x00")
+        ran = tool("session", "--memory", self.image(), "--every", 1, "--until", 1, "--inputs", inputs)
+        self.assert_refused(ran, "inputs.csv: not a CSV file")
