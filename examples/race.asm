@@ -1,7 +1,7 @@
 ; Looks five times for a key. Sends the key if it came in time, and else a question mark.
 
         MOV R1, SERIAL
-        MOV R2, 5               ; so many looks
+        MOV R2, 5               ; the number of looks
 look:   LDR R3, R1, MOUSE - SERIAL
         LSL R3, R3, 3           ; bit 28, a key waits, comes to bit 31, which N shows
         BMI came

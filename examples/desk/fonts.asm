@@ -1,5 +1,5 @@
 ; Signs of three by five blocks of dots.
-SCALE = 4                       ; a block has so many dots in a row
+SCALE = 4                       ; the dots of a block in a row
 ACROSS = 3
 UP = 5
 
