@@ -125,11 +125,15 @@ class DocumentsTest(ToolTest):
                 self.assertTrue((document.parent / link).exists(), f"{document.name}: {link}")
 
     def test_the_kit_is_the_one_that_the_documents_and_the_page_name(self) -> None:
-        kit = run(["rt", "version"]).output.decode().strip()
-        self.assertRegex(kit, r"^rattle-kit-\S+ logic [0-9a-f]{16}$")
+        """Machines have kits of one logic whose names end in different letters, so the logic is what has to agree."""
+        line = r"rattle-kit-(\S+) logic ([0-9a-f]{16})"
+        kit = re.fullmatch(line, run(["rt", "version"]).output.decode().strip())
+        assert kit
         for document in (TOP / "README.md", TOP / "docs/proved.md", TOP / "web/galluspa.html"):
-            named = set(re.findall(r"rattle-kit-\S+ logic [0-9a-f]{16}", document.read_text()))
-            self.assertEqual(named, {kit}, document.name)
+            named = set(re.findall(line, document.read_text()))
+            self.assertEqual({(name.rstrip("abcdefghijklmnopqrstuvwxyz"), logic) for name, logic in named},
+                             {(kit[1].rstrip("abcdefghijklmnopqrstuvwxyz"), kit[2])}, document.name)  # fmt: skip
+            self.assertEqual(len(named), 1, document.name)
 
     def test_the_trusted_crates_are_those_that_are_used(self) -> None:
         lines = [line.partition(":") for line in (TOP / "crates.txt").read_text().splitlines() if ":" in line and line[0] != "#"]
