@@ -42,7 +42,9 @@ def run_suite(
     a file of the folder goes by its name, as in `test_film`, and so do its tests: `test_film.FilmTest.test_helps`."""
     get_ready(folder.name, needed)
     words = chosen(folder, arguments)
-    options = ["-c", str(TOP / "pyproject.toml"), "--rootdir", str(TOP), *processes(arguments, jobs, dist)]
+    # Suites that run side by side each note in a place of their own which tests failed last.
+    options = ["-c", str(TOP / "pyproject.toml"), "--rootdir", str(TOP), "-o", f"cache_dir=out/pytest/{folder.name}"]
+    options += processes(arguments, jobs, dist)
     os.environ["PYTHONDONTWRITEBYTECODE"] = "1"
     command = [sys.executable, "-m", "pytest", *options, *words]
     sys.stdout.flush()
