@@ -166,3 +166,23 @@ def test_a_few_failed_tests_run_again_alone(tmp_path: Path, failures: int, passe
         assert said[-1] == f"alongside: passed only when run again, alone: {', '.join(names)}"
     (tmp_path / "tests/loop-cost").write_text("#!/bin/sh\nexit 1\n")
     assert run([tmp_path / "tests/alongside"], lines.encode()).status == 1
+
+
+def test_mutants_begin_once_the_crates_below_are_built(tmp_path: Path) -> None:
+    """The mutants of a crate are tried beside its own proof; libraries of the kit are built already."""
+    for crate in ("low", "middle", "up"):
+        (tmp_path / f"crates/{crate}/mutants").mkdir(parents=True)
+    (tmp_path / "crates.txt").write_text("low: hex\nmiddle may_wait=1: low\nup: middle clap\n")
+    alongside(tmp_path, "1 passed, 1 failed\n")
+    stub = tmp_path / "tests/mutants"
+    stub.write_text("#!/bin/sh\n")
+    stub.chmod(0o755)
+    said = run([tmp_path / "tests/alongside"], b"rt: low proved\n1 passed, 1 failed\n").output.decode().splitlines()
+    assert [line for line in said if line.startswith("alongside: once") and "mutants" in line] == [
+        "alongside: once low are built: tests/mutants middle",
+        "alongside: once middle are built: tests/mutants up",
+    ]
+    assert "alongside: at the first proof: tests/mutants low" in said
+    assert {line for line in said if line.endswith("begins")} <= {
+        f"alongside: tests/mutants {it} begins" for it in ("low", "middle")
+    }
