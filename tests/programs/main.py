@@ -45,7 +45,7 @@ WRONG_ANN = "x = b & c;"
 COUNTER = TOP / "tests/programs/counts.c"
 # Mistakes of the counter in C, and the counts and the parts at which they have to show in a program with ANN.
 COUNTED_WRONG: tuple[tuple[str, str, str, list[tuple[int, str]]], ...] = (
-    ("machine.h", ANN, WRONG_ANN, [(2, "processor"), (2, "record")]),
+    ("machine.h", ANN, WRONG_ANN, [(2, "record")]),
     ("counts.c", "d->has_word = 1", "d->has_word = 0", [(0, "record")]),
     ("counts.c", "m->pc != pc + 1", "m->pc == pc + 1", [(0, "departures of word 0, 0 in place of 1")] * 2),
     ("counts.c", "visits[pc]++", "visits[m->pc]++", [(0, "visits of word 0, 1 in place of 0")] * 2),
