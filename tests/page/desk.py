@@ -26,7 +26,7 @@ LINE, HOW, OWN_LINE, REFUSED_LINE = shown("line"), shown("how"), shown("own-line
 NOTICE, SENT = shown("notice"), shown("out")
 # The name of the machine, its state in a word, and what that means.
 MODE = f"({shown('mode')} + ' ' + {shown('mode-text')})"
-JUDGED = f"{LINE} && !galluspa.isChecking('file') && {LINE} !== 'stopped: no verdict'"
+JUDGED = f"{LINE} && !galluspa.isChecking('file') && {LINE} !== 'cancelled: no verdict'"
 OWN_JUDGED = f"{OWN_LINE} && !galluspa.isChecking('own')"
 DRAWN = "pixelsSet()"
 # What the browser says if a page that was used by script alone wants to ask before it is left.

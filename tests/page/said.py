@@ -1,4 +1,4 @@
-"""What the page says is so: where a recording ends, what is open, which verdict is whose, and what is known of a check that was stopped."""
+"""What the page says is so: where a recording ends, what is open, which verdict is whose, and what is known of a check that was cancelled."""
 
 import json
 import re
@@ -224,7 +224,7 @@ def judge_both(desk: Desk) -> None:
 
 
 def end_at_once(desk: Desk) -> None:
-    """A machine that stopped is at its end at once, in a check and in a replay; a check that is stopped says what it has found."""
+    """A machine that stopped is at its end at once, in a check and in a replay; a check that is cancelled says what it has found."""
     page = desk.page
     stopped = record(session([STOP], [1, 1 << 40]))
     desk.start("stopped.orsr", stopped)
@@ -242,12 +242,12 @@ def end_at_once(desk: Desk) -> None:
     desk.open("never.orsr", bytes(never))
     page.wait("verdicts.file.work?.judged === 2 && verdicts.file.work.done > 25000000")
     desk.click("stop")
-    expect("the line of a check that was stopped", page.answer(LINE), "stopped: no verdict")
+    expect("the line of a check that was cancelled", page.answer(LINE), "cancelled: no verdict")
     if not re.fullmatch(
         r"Up to checkpoint 2 of 3 all are true; [\d,]+ of 1,099,511,627,776 steps were checked\.", page.answer(HOW)
     ):
         fail(f"what it says it found: {page.answer(HOW)!r}")
-    print("stopped: a machine that stopped is at 2^40 at once, checked and replayed; a check that was stopped says what it found")
+    print("stopped: a machine that stopped is at 2^40 at once, checked and replayed; a check that was cancelled says what it found")
 
 
 def refuse_each(desk: Desk) -> None:

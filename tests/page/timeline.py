@@ -292,7 +292,7 @@ def search(desk: Desk) -> None:
 
 
 def stop_search(desk: Desk) -> None:
-    """A long search says how far it is, and ends as soon as it is stopped."""
+    """A long search says how far it is, and ends as soon as it is cancelled."""
     page = desk.page
     page.answer("el('speed').value = 'fast'")
     desk.start("counting.json", json.dumps(session([0x40080001, 0xE7FFFFFE], [])).encode())
@@ -304,18 +304,18 @@ def stop_search(desk: Desk) -> None:
     page.wait(f"/^[\\d,]+ of [\\d,]+ counts, about \\d+ s left$/.test({shown('found')}) && !el('find-stop').hidden")
     page.answer("el('cursor').focus()")
     page.press("Escape")
-    page.wait(f"{shown('found')} === 'The search was stopped.' && el('find-stop').hidden")
+    page.wait(f"{shown('found')} === 'The search was cancelled.' && el('find-stop').hidden")
     expect("where it stays", page.answer(WORD), "PAUSED")
     page.answer("registerCells.get('LEDs').holder.click()")
     page.wait(f"/of [\\d,]+ counts/.test({CARD}) && el('writer-search')")
     page.answer("el('cursor').focus()")
     page.press("Escape")
-    page.wait(f"{CARD}.includes('The search was stopped.') && !el('writer-search') && !asking.isOn")
+    page.wait(f"{CARD}.includes('The search was cancelled.') && !el('writer-search') && !asking.isOn")
     page.answer("registerCells.get('LEDs').holder.click()")
     page.wait("asking.isOn && el('writer-far').textContent")
     page.answer("el('card').querySelector('.close').click()")
     page.wait("asking === null && el('card').hidden")
-    print("search: a long one says how far it is, and is stopped; so is one of a card, by Escape, and by closing the card")
+    print("search: a long one says how far it is, and is cancelled; so is one of a card, by Escape, and by closing the card")
 
 
 def look_ahead(desk: Desk) -> None:

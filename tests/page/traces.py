@@ -235,7 +235,7 @@ def compare_long(desk: Desk) -> None:
     expect("the card", lines_of(desk)[-1], "The same in 300,000 lines, from count 0 to 299,999.")
     if max(tasks) > LONGEST_TASK_MS:
         fail(f"a task took {max(tasks):.0f} ms of the processor while {len(trace):,} bytes were compared")
-    for how in ("Esc", "Stop"):
+    for how in ("Esc", "Cancel"):
         page.answer("el('card').querySelector('.close')?.click()")
         page.answer(
             """(() => {
@@ -250,9 +250,9 @@ def compare_long(desk: Desk) -> None:
         if how == "Esc":
             page.press("Escape", "Escape")
         else:
-            desk.click_on(button_of("el('card')", "Stop"))
+            desk.click_on(button_of("el('card')", "Cancel"))
         page.wait(COMPARED)
-        if "It was stopped." not in page.answer(CARD):
+        if "It was cancelled." not in page.answer(CARD):
             fail(f"after {how} the card says {page.answer(CARD)!r}")
     print(f"long: 300,000 lines, the longest task {max(tasks):.0f} ms of the processor; ended by Esc and by a button")
 

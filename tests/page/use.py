@@ -69,7 +69,7 @@ def open_recordings(desk: Desk) -> None:
 
 
 def check_long(desk: Desk) -> None:
-    """A long recording has the line of its slices first, and then that of one call; stopped between, the first stays and is said to be joined."""
+    """A long recording has the line of its slices first, and then that of one call; cancelled between, the first stays and is said to be joined."""
     page = desk.page
     counts = [10000000, 20000000, 100000000]
     long = record(json.dumps({**json.loads((EXAMPLES / "face.json").read_text()), "checkpoints": counts}).encode())
@@ -92,15 +92,15 @@ def check_long(desk: Desk) -> None:
     expect("how the line came", page.answer(HOW), "This line is that of one call of the proved check, over the whole recording.")
     page.answer("window.onJoined = () => el('stop').click()")
     desk.open("stopped.orsr", long)
-    page.wait(f"{HOW}.includes('stopped')")
-    expect("the line when stopped", page.answer(LINE), program("check", long)[0])
+    page.wait(f"{HOW}.includes('cancelled')")
+    expect("the line when cancelled", page.answer(LINE), program("check", long)[0])
     joined = (
-        "The proved check of \\d+ slices gave this line, put together by this page's script. The check of the whole was stopped."
+        "The proved check of \\d+ slices gave this line, put together by this page's script. The check of the whole was cancelled."
     )
     if not re.fullmatch(joined, page.answer(HOW)):
         fail(f"how it came: {page.answer(HOW)!r}")
     page.answer("verdicts.file.heard = heardOfFile; window.onJoined = null")
-    print("long recordings: the line of the slices comes first, and then that of one call; stopped between, the first stays")
+    print("long recordings: the line of the slices comes first, and then that of one call; cancelled between, the first stays")
 
 
 def open_hostile(desk: Desk) -> None:
@@ -134,11 +134,11 @@ def open_hostile(desk: Desk) -> None:
         else:
             desk.page.wait("el('bar').value > 0 && el('left').textContent.includes(' of 1,099,511,627,776 steps, about ')")
     desk.click("stop")
-    expect("a check that was stopped", desk.page.answer(LINE), "stopped: no verdict")
+    expect("a check that was cancelled", desk.page.answer(LINE), "cancelled: no verdict")
     if not re.fullmatch(r"No checkpoint was judged; [\d,]+ of 1,099,511,627,776 steps were checked\.", desk.page.answer(HOW)):
-        fail(f"what is known when the check is stopped: {desk.page.answer(HOW)!r}")
+        fail(f"what is known when the check is cancelled: {desk.page.answer(HOW)!r}")
     print(
-        "hostile files: 8 are refused by name; a memory image starts; a file is chosen again during its check; a check without end is stopped"
+        "hostile files: 8 are refused by name; a memory image starts; a file is chosen again during its check; a check without end is cancelled"
     )
 
 

@@ -1,5 +1,5 @@
 // @ts-check
-/* The worker that checks recordings, so that a long check can be stopped without touching the live machine. */
+/* The worker that checks recordings, so that a long check can be cancelled without touching the live machine. */
 import { library, machine } from "./context.js";
 import { LONGEST_RECORDING } from "../formats/limits.js";
 import { unlessRefused } from "../formats/refused.js";

@@ -52,7 +52,7 @@ export async function askLastWriter(about, title, before = shownCount()) {
  * @param {Written} given */
 export function showLastWriter(given) {
   if (!asking || asking.request !== given.request) return;
-  // What was found stays there if the search for something later is stopped.
+  // What was found stays there if the search for something later is cancelled.
   const answer = given.stopped && asking.answer ? { ...asking.answer, stopped: true } : given;
   const { at, stored } = answer, isShown = at !== undefined && asking.answer?.at === at;
   if (!isShown) showCard(asking.title, partsOfAnswer(answer, asking), forgetAsked);
@@ -70,10 +70,10 @@ async function nameLastWriter({ at = 0, pc, state }) {
   if (state) await showCalls("writer-calls", at, state, () => asking?.answer?.at === at);
 }
 
-/** What a card has of a search that is under way: how far it is, and a button that ends it. */
+/** What a card has of a search that is under way: how far it is, and a button that cancels it. */
 function partsOfSearch() {
   const place = Object.assign(made("div", "", "hint"), { id: "g-writer-search" }), far = Object.assign(made("span", ""), { id: "g-writer-far" });
-  place.append(button("Stop", stopSearch), " ", far);
+  place.append(button("Cancel", stopSearch), " ", far);
   return [place];
 }
 
@@ -108,9 +108,9 @@ export async function jumpTo(at) {
 /** Says what wrote something: an instruction, an input, or none.
  * @param {Written} answer */
 export function answerText({ at, pc, sure, input, stopped, stored }) {
-  if (stopped && at === undefined) return "The search was stopped.";
+  if (stopped && at === undefined) return "The search was cancelled.";
   if (input) return `The input ${input[1]} ${hex(input[2], 2)} before instruction ${grouped(at ?? 0)}: sure`;
-  const soFar = stopped ? "so far; the search was stopped" : "so far; still searching later counts";
+  const soFar = stopped ? "so far; the search was cancelled" : "so far; still searching later counts";
   if (at !== undefined) return `Instruction ${grouped(at)}, PC ${bothOf(4 * Number(pc))}: ${sure ? "sure" : soFar}`;
   if (stored) return "No instruction changed it.";
   return "Never written since the start.";

@@ -57,7 +57,7 @@ export async function search(conditions, isBack, isRun = false) {
   if (finding !== own) return undefined;
   finding = { ...own, isOn: false };
   if (found?.at !== undefined) return foundAt({ at: found.at, which: found.which ?? 0 }, conditions);
-  showFinding(found?.none ? `${what}: none ${isBack ? "before" : "after it, up to now"}.` : "The search was stopped.");
+  showFinding(found?.none ? `${what}: none ${isBack ? "before" : "after it, up to now"}.` : "The search was cancelled.");
   return found?.none ? null : undefined;
 }
 

@@ -43,7 +43,7 @@ export async function compareTrace(file, isHexadecimal = false) {
   const own = { file, name, isHexadecimal, request: app.past.numbered(), isOn: true, isAsking: false, progress: paragraph("reading ..", "hint") };
   comparing = own;
   setBracket(null);
-  showTraceCard(own, own.progress, button("Stop", stopTrace));
+  showTraceCard(own, own.progress, button("Cancel", stopTrace));
   try {
     const found = await app.past.trace({ file, isHexadecimal, request: own.request });
     if (comparing === own) showFound(own, found);
@@ -82,11 +82,11 @@ export function showTracing({ request, lines, last, done, of }) {
   comparing.progress.textContent = `${far}; ${(done / MEGABYTE).toFixed(1)} of ${(of / MEGABYTE).toFixed(1)} MB were read.`;
 }
 
-/** Shows what came of a comparison; it was stopped if nothing did.
+/** Shows what came of a comparison; it was cancelled if nothing did.
  * @param {Comparing} own
  * @param {Traced | null} found */
 function showFound(own, found) {
-  if (!found) return showTraceCard(own, paragraph("It was stopped.", ""), own.progress);
+  if (!found) return showTraceCard(own, paragraph("It was cancelled.", ""), own.progress);
   const { unknown, parted } = found, ignored = unknown.length ? [paragraph(`Not compared: ${unknown.join(", ")}`, "hint")] : [];
   if (!parted) return showTraceCard(own, paragraph(samenessText(found), ""), ...ignored);
   setBracket({ from: parted.before, to: parted.at });
@@ -190,7 +190,7 @@ function setBracket(band) {
   listLanes();
 }
 
-/** Hears Esc, which ends a comparison from anywhere in the page. */
+/** Hears Esc, which cancels a comparison from anywhere in the page. */
 export function listenToTraces() {
   const stopByKey = (/** @type {KeyboardEvent} */ event) => {
     if (event.key !== "Escape" || !(comparing?.isOn || comparing?.isAsking)) return;

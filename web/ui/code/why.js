@@ -49,7 +49,7 @@ export async function followWhy(about, before, jump, links = FIRST_LINKS) {
   const list = made("ol", ""), far = made("span", ""), said = made("div", "", "hint");
   list.id = "g-why-list";
   far.id = "g-why-far";
-  said.append(button("Stop", () => app.past.stop()), " ", far);
+  said.append(button("Cancel", () => app.past.stop()), " ", far);
   el("why").replaceChildren(made("b", "Where the value comes from"), list, said);
   const answer = await attempt(() => app.past.why({ ...about, before, links, request }));
   own.isOn = false;
@@ -57,7 +57,7 @@ export async function followWhy(about, before, jump, links = FIRST_LINKS) {
   if (answer?.values) showWhy({ request, values: answer.values });
   const isMore = answer?.values && links < MOST_LINKS && flat(answer.values).some(({ it }) => it.end === "unfollowed");
   const more = isMore ? [" ", button("Follow more", () => followWhy(about, before, jump, Math.min(MOST_LINKS, 4 * links)))] : [];
-  said.replaceChildren(answer?.values ? "It follows values, and not the branches that led to an instruction." : "The search was stopped.", ...more);
+  said.replaceChildren(answer?.values ? "It follows values, and not the branches that led to an instruction." : "The search was cancelled.", ...more);
 }
 
 /** Says how far the search for a link has come.

@@ -24,7 +24,7 @@ function showContents() {
   write("report-at", isPast() ? `It opens at the cursor, at ${grouped(shownCount())}.` : "It opens where the machine is now.");
 }
 
-/** Returns the recording to report: the file that is open while it is replayed, or else what was recorded so far; or null if its check is stopped. */
+/** Returns the recording to report: the file that is open while it is replayed, or else what was recorded so far; or null if its check is cancelled. */
 async function verified() {
   await app.live.ask("setRun", { on: false });
   const { file, latest } = app;
@@ -54,7 +54,7 @@ async function saveReport(event) {
   const note = noteOf(el("report-title").value, el("report-note").value), cursor = isPast() ? shownCount() : Infinity;
   const symbols = el("report-names").checked ? symbolFile() : null, sources = el("report-sources").checked ? sourceTexts() : [];
   const found = await verified();
-  if (!found) return notice("No report was saved: the check of its recording was stopped.");
+  if (!found) return notice("No report was saved: the check of its recording was cancelled.");
   const at = Math.min(cursor, shownCount(), found.count), name = printable(found.name);
   const page = await reportPage({ ...found, name, at, note, symbols, sources });
   download(`${app.work.name.replace(/(-live)+$/, "")}-report.html`, new Blob(page), "text/html");

@@ -144,12 +144,12 @@ class Verdict {
     this.checker = null;
   }
 
-  /** Stops the check by hand, and says what is known so far. */
+  /** Cancels the check by hand, and says what is known so far. */
   stop() {
     if (!this.checker || !this.work) return;
     this.end();
-    if (this.line) this.part("how").textContent += " The check of the whole was stopped.";
-    else this.show("stopped: no verdict", null, knownSoFar(this.work));
+    if (this.line) this.part("how").textContent += " The check of the whole was cancelled.";
+    else this.show("cancelled: no verdict", null, knownSoFar(this.work));
   }
 }
 
@@ -163,7 +163,7 @@ export function headlineOf({ accepted, wrong }) {
   return `Verified: ${many(checkpoints, "checkpoint")}, ${time} of machine time`;
 }
 
-/** Says what a check has found that was stopped before it had a line.
+/** Says what a check has found that was cancelled before it had a line.
  * @param {CheckWork} work */
 function knownSoFar({ done, steps, judged, checkpoints }) {
   if (!steps) return "Nothing is known of it yet.";

@@ -26,7 +26,7 @@ export const stopStepping = () => app.past.stopCalls(PLACE);
 export function showStepping({ request, done, of }) {
   if (!stepping || request !== stepping) return;
   isSaid = true;
-  notice(`Following calls: ${grouped(done)} of ${grouped(of)} counts. Esc ends it.`);
+  notice(`Following calls: ${grouped(done)} of ${grouped(of)} counts. Esc cancels it.`);
 }
 
 /** Asks about calls. A newer step ends this one, whose answer is null.

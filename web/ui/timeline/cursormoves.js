@@ -64,7 +64,7 @@ export async function runAgain() {
 
 /** @param {Requests["recheck"][1]} answer */
 function saidOfAgain({ stopped, part }) {
-  if (stopped) return "It was stopped.";
+  if (stopped) return "It was cancelled.";
   return part ? `Not the same: ${part} differs from what is shown. Reload the page, and please report it.` : "The same.";
 }
 
