@@ -2,7 +2,6 @@
 page is loaded anew, left, closed, or its browser's process is ended. All that the page gets are keys and clicks."""
 
 import re
-import time
 from collections.abc import Iterator
 from contextlib import contextmanager
 from pathlib import Path
@@ -125,7 +124,7 @@ def close(who: Person) -> None:
 
 
 def take_over(who: Person) -> tuple[int, int]:
-    """Draws and types for some seconds, goes to the beginning, takes over there, types a key, and pauses. Returns the counts of both runs."""
+    """Draws and types for two seconds of the machine, goes to the beginning, takes over there, types a key, and pauses. Returns the counts of both runs."""
     who.begin_drawing()
     left, top, width = who.screen()
     who.page.point("mousePressed", left + 20, top + 20, 1)
@@ -133,7 +132,7 @@ def take_over(who: Person) -> tuple[int, int]:
         who.page.point("mouseMoved", left + width * (0.1 + step / 40), top + 60 + 4 * step, 1)
     who.page.point("mouseReleased", left + width * 0.6, top + 140)
     who.type("old")
-    time.sleep(2)
+    who.page.wait("galluspa.count() > 50000000")
     who.run_or_pause()
     old = who.count()
     who.press_button("#g-begin-at")

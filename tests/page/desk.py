@@ -89,10 +89,11 @@ class Desk:
         for _ in range(5):
             self.page.answer("new Promise((done) => requestAnimationFrame(() => requestAnimationFrame(() => done())))")
             self.page.answer(f"{found}.scrollIntoView({{ block: 'nearest' }})")
+            # The page may make the element anew before the click: whatever the expression is of by then counts.
             self.page.answer(
-                f"{found}.addEventListener('click', () => (document.body.dataset.clicked = 'yes'), {{ once: true, capture: true }})"
+                f"document.body.dataset.clicked = ''; document.addEventListener('click', ({{ target }}) => "
+                f"(document.body.dataset.clicked = ({found})?.contains(target) ? 'yes' : ''), {{ once: true, capture: true }})"
             )
-            self.page.answer("document.body.dataset.clicked = ''")
             x, y = self.page.answer(middle)
             for kind in ("mouseMoved", "mousePressed", "mouseReleased"):
                 self.page.point(kind, x, y, int(kind == "mousePressed"))
@@ -161,7 +162,8 @@ class Desk:
         self.page.wait("galluspa.frame().on")
 
     def pause(self) -> None:
-        """Pauses the machine."""
+        """Pauses the machine, once it runs: before, the button would run it."""
+        self.page.wait("galluspa.frame().on")
         self.click("run")
         self.page.wait("!galluspa.frame().on")
 
@@ -181,10 +183,12 @@ class Desk:
         expect(f"what is refused of {name}", found, [f"The file {name} is refused:", line])
 
     def expect_notice(self, what: str, pattern: str) -> None:
-        """Expects a notice in one line."""
-        self.page.wait(NOTICE)
-        if not re.fullmatch(pattern, self.page.answer(NOTICE)):
-            fail(f"{what}: {self.page.answer(NOTICE)!r}")
+        """Expects a notice in one line. One that is there from before may still be shown when this begins."""
+        end = time.monotonic() + browser.PATIENCE
+        while not re.fullmatch(pattern, said := self.page.answer(NOTICE)):
+            if time.monotonic() > end:
+                fail(f"{what}: {said!r}")
+            time.sleep(0.03)
 
     def save(self, name: str, what: str) -> bytes:
         """Saves the recording; its line is the program's, and the program accepts it."""

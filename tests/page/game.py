@@ -2,7 +2,6 @@
 
 import json
 import re
-import time
 
 import galluspa.formats.recording
 from tests.page.desk import SENT, Desk, expect, fail, shown
@@ -29,14 +28,9 @@ def press_button(desk: Desk, text: str) -> None:
 
 
 def click_card(desk: Desk, name: str) -> None:
-    """Clicks on a card of the empty page with the mouse."""
-    # The screen has its size in the frame after the list of what is kept is shown.
-    desk.page.answer("new Promise((done) => requestAnimationFrame(() => requestAnimationFrame(() => done())))")
-    x, y = desk.page.answer(
-        f"(({{ left, top, width, height }}) => [left + width / 2, top + height / 2])(el('{name}').getBoundingClientRect())"
-    )
-    desk.page.send_mouse("mousePressed", x, y, time.time(), 1)
-    desk.page.send_mouse("mouseReleased", x, y, time.time())
+    """Clicks on a card of the empty page with the mouse, once the list of what is kept is shown, with which the cards may move."""
+    desk.page.wait("demo")
+    desk.click_on(f"el('{name}')")
 
 
 def play(desk: Desk) -> None:

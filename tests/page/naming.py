@@ -24,6 +24,8 @@ WHERE, CALLS, FOUND = shown("where"), shown("calls"), shown("found")
 HERE = "(el('listing').querySelector('.here')?.textContent ?? '')"
 # Whether all calls of the lane are known, and the dots of the lane.
 CALLS_KNOWN = "callsKnown.found?.upTo === galluspa.count() && callsKnown.found.from === Math.max(0, Math.floor(timeline.from))"
+# How far the machine has come, and how far its calls were followed.
+FOLLOWED = "[galluspa.count(), callsKnown.found?.upTo, callsKnown.found?.followed]"
 LANE = """(() => {
   const { width } = el('lanes'), y = devicePixelRatio * (16 + 16 * lanes.rows.indexOf('calls')), high = 16 * laneRows('calls') * devicePixelRatio;
   const copy = new OffscreenCanvas(width, high).getContext('2d', { willReadFrequently: true });
@@ -609,7 +611,7 @@ def show_lane(desk: Desk) -> None:
     page.press("c")
     open_loops(desk, LONG)
     watch_quickly(desk)
-    page.wait(f"!galluspa.frame().on && galluspa.count() === {LONG} && {CALLS_KNOWN}")
+    page.wait(f"!galluspa.frame().on && galluspa.count() === {LONG} && {CALLS_KNOWN}", moving=FOLLOWED)
     said = under(desk, LONG / 3, page.answer("laneRows('calls')") - 1)
     found = re.fullmatch(r"(one|two) most of the time, of (\d+) parts from ([\d,]+) to ([\d,]+)", said)
     if not found:

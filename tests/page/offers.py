@@ -253,11 +253,7 @@ def say_words(desk: Desk) -> None:
     page.wait(JUDGED)
     expect("the headline", page.answer(HEADLINE), "Verified: 4 checkpoints, 0.8 s of machine time")
     expect("what is said of a replay", page.answer(shown("mode-text")), "Run plays the file. Continue from here to type.")
-    expect(
-        "the lanes",
-        page.answer("[...el('names').children].map((it) => it.textContent).filter(Boolean)"),
-        ["checkpoints", "keyframes"],
-    )
+    page.wait("[...el('names').children].map((it) => it.textContent).filter(Boolean).join() === 'checkpoints,keyframes'")
     buttons = "['zoom-all', 'take-over', 'take-here', 'run-on', 'run-again'].map((it) => el(it).textContent)"
     expect(
         "the buttons",

@@ -27,6 +27,7 @@ from tests.page import (
     touch,
     traces,
     use,
+    waiting,
     walk,
     writing,
 )
@@ -58,6 +59,7 @@ PARTS: Mapping[str, Sequence[Task]] = {
     "source": (*source.TASKS, *walk.TASKS),
     "writing": writing.TASKS,
     "pointing": pointing.TASKS,
+    "waiting": waiting.TASKS,
     "desk": use.TASKS,
 }
 

@@ -1,10 +1,12 @@
 """What one points at in the page, by real events: a line, with each time that it was executed; a dot, a register or a word, with where its
 value comes from."""
 
-from tests.page.desk import Desk, expect, fail, shown
+from collections.abc import Callable
+
+from tests.page.desk import LONGEST_TASK_MS, Desk, expect, fail, shown
 from tests.page.source import DRAWS, forget_sources, open_source, run_source
 from tests.page.stops import press_button
-from tests.page.timeline import EXACT, click_dot
+from tests.page.timeline import EXACT, click_dot, look_at
 
 # A loop that is done ten times, whose first instruction is at count 2, and then one instruction for ever.
 LOOPS = """        MOV R1, 0
@@ -235,4 +237,60 @@ def see_values(desk: Desk) -> None:
     print(f"lines: values at their ends after {took} ms")
 
 
-TASKS = (point_at_line, press_key_at_line, ask_why, ask_why_elsewhere, see_values)
+# Marks when one clicks or presses Enter, and when the lines first have what they did at another count.
+MARK_VALUES = """(() => {
+  window.countBefore = -1;
+  const begin = () => ((countBefore = galluspa.shownCount()), performance.mark("pressed"));
+  const seen = () => countBefore >= 0 && galluspa.shownCount() !== countBefore && effects.count === galluspa.shownCount() && ((countBefore = -1), performance.mark("seen"));
+  new MutationObserver(seen).observe(el("source"), { attributeFilter: ["data-did"], subtree: true });
+  addEventListener("click", begin, { capture: true });
+  addEventListener("keydown", ({ key }) => key === "Enter" && begin(), { capture: true });
+})()"""
+
+
+def long_source() -> str:
+    """Returns a source of two thousand lines: a hundred procedures, which a loop calls in turn. In the last 4,096 instructions all of them are executed."""
+    body = [line for at in range(0, 24, 4) for line in (f"STR R1, R2, {at}", f"LDR R3, R2, {at}", "ADD R4, R4, R3")]
+    calls = [("        " if at else "loop:   ") + f"BL work{at}" for at in range(100)]
+    procedures = [line for at in range(100) for line in (f"work{at}: ADD R1, R1, 3", *(f"        {it}" for it in body[:17]), "        B LNK")]
+    return "\n".join(["        MOV R2, 8000H", *calls, "        B loop", *procedures, ""])
+
+
+def see_values_of_long_source(desk: Desk) -> None:
+    """In a source of two thousand lines, after a long run as fast as it goes, the workers need less than a tenth of a second of the processor until the values are at
+    the ends of lines: after a pause, after steps on and back, and after jumps."""
+    page, took = desk.page, dict[str, list[float]]()
+    forget_sources(desk)
+    page.answer("el('speed').value = 'fast'")
+    page.answer(MARK_VALUES)
+    open_source(desk, "long.asm", long_source())
+    run_source(desk)
+
+    def measured(what: str, press: Callable[[], object]) -> None:
+        with page.measuring() as tasks:
+            press()
+            page.wait("!galluspa.frame().on && countBefore < 0")
+        took.setdefault(what, []).append(tasks.between("pressed", "seen"))
+        in_sight = page.answer("[...editor.gutter.shown.keys()].filter((at) => wordOfLine(at) > 0).map((at) => Boolean(editor.rows[at].dataset.did))")
+        expect(f"whether the lines in sight have what they did after {what}", (len(in_sight) > 20, all(in_sight)), (True, True))
+
+    for count in (100_000_000, 150_000_000, 200_000_000):
+        page.wait(f"galluspa.frame().on && galluspa.count() > {count}", moving="galluspa.count()")
+        measured("a pause", lambda: desk.click_on("el('run')"))
+        if count < 200_000_000:
+            desk.go_on()
+    for name, what in (("step", "a step on"), ("back", "a step back")):
+        for _ in range(5):
+            measured(what, lambda: press_button(desk, name))
+    for count in (100_004_321, 12_345_678, 187_654_321, 54_321_000, 150_000_001):
+        measured("a jump", lambda: look_at(desk, count))
+    page.answer("el('speed').value = 'clock'")
+    # What else runs on the machine makes tasks longer, and other tasks come between, so the least of some tries counts.
+    for what, all_ in took.items():
+        if min(all_) > LONGEST_TASK_MS:
+            fail(f"the values at the ends of lines take the workers {[round(ms) for ms in all_]} ms of the processor after {what}")
+    said = ", ".join(f"{min(all_):.0f} ms after {what}" for what, all_ in took.items())
+    print(f"lines: the values of a source of 2,000 lines take the workers {said}, of the processor")
+
+
+TASKS = (point_at_line, press_key_at_line, ask_why, ask_why_elsewhere, see_values, see_values_of_long_source)

@@ -7,6 +7,7 @@ from functools import cache
 import galluspa.formats.recording
 from tests.page.desk import LONGEST_TASK_MS, OWN_LINE, SENT, Desk, expect, fail, program, shown
 from tests.page.stops import press_button
+from tests.page.timeline import CARD, EXACT, look_at
 from tests.tools.samples import record, session
 
 # Counts in R0, and sends its lowest byte each time: so no step of it is skipped.
@@ -46,7 +47,39 @@ def replay_many(desk: Desk) -> None:
     saved = desk.save("many", "a replay of many checkpoints")
     own, other = [galluspa.formats.recording.read(text) for text in (saved, many(MANY))]
     expect("whether the same is claimed", [it.output for it in own.checkpoints] == [it.output for it in other.checkpoints], True)
-    print(f"replay: {MANY} checkpoints in {turns} turns, and recorded again; the longest task {max(tasks):.0f} ms of the processor")
+    print(
+        f"replay: {MANY} checkpoints in {turns} turns, and recorded again; the longest task {max(tasks):.0f} ms of the processor, "
+        f"and of a worker {max(tasks.workers):.0f} ms"
+    )
+
+
+def search_many(desk: Desk) -> None:
+    """A replay of four thousand checkpoints is searched in short tasks, of the page and of its workers: the byte that was sent before, the next one, who wrote a register,
+    the checkpoints before and after, and a jump."""
+    page = desk.page
+    page.answer("el('speed').value = 'fast'")
+    desk.start("many.orsr", many(MANY))
+    press_button(desk, "run")
+    page.wait("!galluspa.frame().isReplay && !galluspa.frame().on", moving="galluspa.count()")
+    page.answer("el('search-kind').value = SENDS; el('search-kind').dispatchEvent(new Event('change'))")
+    for _ in range(TRIES):
+        with page.measuring() as tasks:
+            look_at(desk, APART * MANY // 2 + 1)
+            for name, sign in (("find-before", "<"), ("find-next", ">"), ("find-next", ">")):
+                at = page.answer("galluspa.cursor()")
+                press_button(desk, name)
+                page.wait(f"galluspa.cursor() {sign} {at} && {EXACT} && !galluspa.isSearching()")
+            page.answer("registerCells.get('R3').holder.click()")
+            page.wait(f"{CARD}.includes('Never written since the start.')")
+            page.answer("el('card').querySelector('.close').click(); el('cursor').focus()")
+            for key, at in (("[", MANY // 2), ("[", MANY // 2 - 1), ("]", MANY // 2)):
+                page.press(key)
+                page.wait(f"galluspa.cursor() === {APART * at} && {EXACT}")
+        if max(*tasks, *tasks.workers) <= LONGEST_TASK_MS:
+            break
+    if max(*tasks, *tasks.workers) > LONGEST_TASK_MS:
+        fail(f"a task took {max(tasks):.0f} ms of the processor when {MANY} checkpoints were searched, and one of a worker {max(tasks.workers):.0f} ms")
+    print(f"search: among {MANY} checkpoints; the longest task {max(tasks):.0f} ms of the processor, and of a worker {max(tasks.workers):.0f} ms")
 
 
 def take_over_between(desk: Desk) -> None:
@@ -161,4 +194,4 @@ def draw_many(desk: Desk) -> None:
     print(f"checkpoints: the lanes with 4,096 take {many:.0f} ms of the processor, and {few:.0f} ms with four")
 
 
-TASKS = (replay_many, take_over_between, mark_between, replay_false, wait_for_storage, draw_many)
+TASKS = (replay_many, search_many, take_over_between, mark_between, replay_false, wait_for_storage, draw_many)

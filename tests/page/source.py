@@ -54,9 +54,10 @@ last:   LDR R2, SP, 4
 
 
 def open_source(desk: Desk, name: str, text: str) -> None:
-    """Drops a source on the page, and waits until it is assembled."""
+    """Drops a source on the page, and waits until it is assembled; one of this name may be open before."""
+    desk.page.answer("void (window.madeBefore = desk.made)")
     desk.drop(name, text.encode())
-    desk.page.wait(f"galluspa.source().file === '{name}' && {ASSEMBLED}")
+    desk.page.wait(f"desk.made !== madeBefore && galluspa.source().file === '{name}' && {ASSEMBLED}")
 
 
 def forget_sources(desk: Desk) -> None:
@@ -606,7 +607,8 @@ def write_at_once(desk: Desk) -> None:
     type_line(desk, "        MOV R0, 5")
     page.wait(f"{ASSEMBLED} && {SAID} === 'program.asm: 1 word, 0 problems'")
     run_source(desk)
-    desk.pause()
+    # What comes after its word are zeros, up to the end of memory.
+    page.wait(f"{WORD} === 'STOPPED' && galluspa.shownCount() === 262144")
     print("source: what is typed into the empty tab is assembled, and runs")
 
 

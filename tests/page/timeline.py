@@ -20,8 +20,9 @@ REVERSED = bytes(int(f"{byte:08b}"[::-1], 2) for byte in range(256))
 
 
 def look_at(desk: Desk, count: int) -> None:
-    """Looks at a count by the field of the region."""
+    """Looks at a count by the field of the region, once the timeline goes that far: how far a file goes the page asks when it is opened."""
     page = desk.page
+    page.wait(f"lanes.end >= {count}")
     page.answer("el('cursor').focus()")
     page.press("g")
     page.answer("el('goto').value = ''")
@@ -522,13 +523,12 @@ def look_narrow(desk: Desk) -> None:
     page = desk.page
     run_to_end(desk, "face.orsr", FACE)
     look_at(desk, 8000000)
-    pictures = []
-    for scheme in ("light", "dark"):
-        page.prefer(scheme)
-        page.resize(400, 850)
-        page.answer("new Promise((done) => requestAnimationFrame(() => setTimeout(done, 50)))")
-        pictures.append(page.answer("el('lanes').toDataURL()"))
-    expect("whether the lanes are the same, light and dark", pictures[0] == pictures[1], False)
+    page.prefer("light")
+    page.resize(400, 850)
+    page.wait("el('lanes').offsetHeight < 60")
+    page.answer("void (window.light = el('lanes').toDataURL())")
+    page.prefer("dark")
+    page.wait("el('lanes').toDataURL() !== light")
     buttons = "[...document.querySelectorAll('#galluspa .keys button')].filter((it) => it.checkVisibility())"
     expect(
         "the buttons of the transport",
@@ -546,9 +546,8 @@ def look_narrow(desk: Desk) -> None:
     windows: tuple[tuple[int, int, int | None, str], ...] = ((1800, 1400, 1024, "pixelated"), (1280, 1100, None, "auto"))
     for width, height, wanted, rendered in windows:
         page.resize(width, height)
-        page.answer("new Promise((done) => requestAnimationFrame(() => setTimeout(done, 50)))")
-        size, rendering = page.answer("[el('screen').offsetWidth, el('screen').style.imageRendering]")
-        expect(f"the screen at {width} points", (size if wanted else None, rendering), (wanted, rendered))
+        width_is = f"el('screen').offsetWidth === {wanted}" if wanted else "true"
+        page.wait(f"el('screen').style.imageRendering === '{rendered}' && {width_is}")
     print("400 points: five buttons and one lane, which stay in sight; light and dark")
 
 

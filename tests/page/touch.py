@@ -17,7 +17,8 @@ def tap_cards(desk: Desk) -> None:
     """The card of Snake is tapped, and then the buttons below the screen turn the snake."""
     page = desk.page
     desk.reload()
-    page.wait("!el('welcome').hidden && el('screen').getBoundingClientRect().width > 0")
+    # The cards may move until the list of what is kept is shown, and the game behind them is played.
+    page.wait("demo && !el('welcome').hidden && el('screen').getBoundingClientRect().width > 0")
     page.tap(*middle(desk, "el('play')"))
     page.wait("galluspa.frame()?.on && el('welcome').hidden && isSnake()")
     page.answer("el('pad').scrollIntoView({ block: 'center' })")

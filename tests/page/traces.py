@@ -20,6 +20,27 @@ LANE = "[...el('lists').children].map((it) => it.getAttribute('aria-label')).fil
 LONGEST_TASK_MS = 100
 # R1 := 200; R2 := 5; R3 := R1 + R2; stored at 400, and loaded into R4; R5 := R4 + R3; a jump to itself.
 WORDS = (0x410000C8, 0x42000005, 0x03180002, 0xA3000190, 0x84000190, 0x05480003, 0xE7FFFFFF)
+# A program that counts in R0, and its trace of so many lines, made in the page: counts from 0 on, with all registers, H and the flags.
+COUNTING, LINES = (0x40080001, 0xE7FFFFFE), 2000000
+MAKE_LONG = f"""(async () => {{
+  const parts = [`count,PC,${{Array.from({{ length: 16 }}, (_, at) => `R${{at}}`)}},H,flags\\n`];
+  for (let count = 0, end = 0; count < {LINES}; ) {{
+    let text = "";
+    for (end += 20000; count < end; count++) text += `${{count}},${{count & 1}},${{(count + 1) >> 1}}${{",0".repeat(17)}}\\n`;
+    parts.push(new Blob([text]));
+    await new Promise((done) => setTimeout(done));
+  }}
+  window.longTrace = new File(parts, "long.csv");
+  window.linesSaid = () => Number(/The same in ([\\d,]+) lines/.exec({CARD})?.[1].replaceAll(",", "") ?? 0);
+}})()"""
+DROP_LONG = """(() => {
+  const data = new DataTransfer();
+  data.items.add(longTrace);
+  dispatchEvent(new DragEvent("drop", { dataTransfer: data, cancelable: true }));
+})()"""
+TRIES = 3
+# How many bytes of script the workers may have more in use after 700,000 lines more.
+MOST_GROWTH = 2e6
 SMALL = "count,PC,R1,R2,R3,R4\n0,0,0,0,0,0\n1,1,200,0,0,0\n2,2,200,5,0,0\n3,3,200,5,205,0\n4,4,200,5,205,0\n5,5,200,5,205,205\n"
 
 
@@ -223,38 +244,51 @@ def need_machine(desk: Desk) -> None:
     print("no machine: the page says what is missing")
 
 
+def watched(desk: Desk, share: float) -> None:
+    """Waits until the page says that a share of the lines of the long trace is the same."""
+    desk.page.wait(f"comparing?.isOn && linesSaid() > {share * LINES}", moving="linesSaid()")
+
+
 def compare_long(desk: Desk) -> None:
-    """300,000 lines are compared while the page goes on; a longer trace is ended by Esc and by its button, with how far it came."""
+    """Two million lines, with all that a processor has, are compared while the page goes on, with how far that is; no task takes long. Memory does not grow with
+    the lines. A comparison is cancelled by Esc and by its button."""
     page = desk.page
-    desk.start("face.orsr", FACE.read_bytes())
+    page.answer(MAKE_LONG)
+    desk.start("counting.orsr", record(session(COUNTING, [LINES])))
     page.wait("galluspa.file()?.verdict")
-    trace = face_trace(299999)
-    with page.measuring() as tasks:
-        desk.choose("long.csv", trace)
-        page.wait(f"{COMPARED} && comparing.file.name === 'long.csv'", CARD)
-    expect("the card", lines_of(desk)[-1], "The same in 300,000 lines, from count 0 to 299,999.")
+    for _ in range(TRIES):
+        page.answer("el('card').querySelector('.close')?.click()")
+        with page.measuring() as tasks:
+            page.answer(DROP_LONG)
+            watched(desk, 0.2)
+            page.wait(f"{COMPARED} && comparing.file.name === 'long.csv'", moving="linesSaid()")
+        # What else runs on the machine makes some tasks longer, so the shortest of some tries counts.
+        if max(tasks) <= LONGEST_TASK_MS:
+            break
+    expect("the card", lines_of(desk)[-1], f"The same in {LINES:,} lines, from count 0 to {LINES - 1:,}.")
     if max(tasks) > LONGEST_TASK_MS:
-        fail(f"a task took {max(tasks):.0f} ms of the processor while {len(trace):,} bytes were compared")
+        fail(f"a task took {max(tasks):.0f} ms of the processor while {LINES:,} lines were compared")
+    each = 1000 * sum(tasks.workers) / LINES
+    heaps = []
     for how in ("Esc", "Cancel"):
         page.answer("el('card').querySelector('.close')?.click()")
-        page.answer(
-            """(() => {
-          const data = new DataTransfer();
-          data.items.add(new File(["H\\n", ...Array(200).fill("0\\n".repeat(50000))], "endless.csv"));
-          dispatchEvent(new DragEvent("drop", { dataTransfer: data, cancelable: true }));
-        })()"""
-        )
-        page.wait(
-            f"comparing?.isOn && /The same in [\\d,]+ lines, up to count [\\d,]+; [\\d.]+ of 20.0 MB were read/.test({CARD})", CARD
-        )
+        page.answer(DROP_LONG)
+        for share in (0.05, 0.4) if how == "Cancel" else (0.01,):
+            watched(desk, share)
+            heaps.append(sum(page.worker_heaps()))
         if how == "Esc":
             page.press("Escape", "Escape")
         else:
             desk.click_on(button_of("el('card')", "Cancel"))
         page.wait(COMPARED)
-        if "It was cancelled." not in page.answer(CARD):
+        if not re.search(r"It was cancelled\.\s+The same in [\d,]+ lines, up to count [\d,]+; [\d.]+ of [\d.]+ MB were read\.", page.answer(CARD)):
             fail(f"after {how} the card says {page.answer(CARD)!r}")
-    print(f"long: 300,000 lines, the longest task {max(tasks):.0f} ms of the processor; ended by Esc and by a button")
+    if heaps[-1] > heaps[-2] + MOST_GROWTH:
+        fail(f"the scripts of the workers have {heaps[-2]:,} bytes after a twentieth of the lines, and {heaps[-1]:,} after two fifths")
+    print(
+        f"long: {LINES:,} lines, {each:.1f} µs of the processor each, the longest task {max(tasks):.0f} ms, in a worker {max(tasks.workers):.0f} ms; "
+        f"{heaps[-1] / 1e6:.1f} MB in the workers, {(heaps[-1] - heaps[-2]) / 1e6:+.1f} MB after {0.35 * LINES:,.0f} lines; cancelled by Esc and by a button"
+    )
 
 
 TASKS = (compare_same, show_difference, find_mistake, refuse_mistakes, need_machine, compare_long)

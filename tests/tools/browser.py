@@ -47,9 +47,10 @@ SEEN = Path(__file__).with_name("seen.js").read_text()
 # Seconds that a wait takes at most. They are many, since a wait ends when what it waits for is there.
 PATIENCE = 120
 
-# What the browser traces, so that it is known how long tasks take, and the thread of a page.
-TRACED = {"includedCategories": ["disabled-by-default-devtools.timeline"], "excludedCategories": ["*"]}
-TASK, MAIN_THREAD = "RunTask", "CrRendererMain"
+# What the browser traces, so that it is known how long tasks take, and the threads of a page and of its workers.
+MARKS = "blink.user_timing"
+TRACED = {"includedCategories": ["disabled-by-default-devtools.timeline", MARKS], "excludedCategories": ["*"]}
+TASK, MAIN_THREAD, WORKER_THREAD = "RunTask", "CrRendererMain", "DedicatedWorker thread"
 
 # Seconds that a page whose test failed has to show itself once more.
 LAST_PATIENCE = 20
@@ -76,6 +77,37 @@ FAULTS = """
   return told;
 })()
 """
+
+
+class Tasks(list[float]):
+    """The milliseconds that each task of pages' own threads took of a processor. `workers` has those of the tasks of their workers."""
+
+    def __init__(self) -> None:
+        super().__init__()
+        self.workers: list[float] = []
+        # When each task of a worker began and ended, in microseconds, with its milliseconds; and when the page made its marks.
+        self._timed: list[tuple[float, float, float]] = []
+        self._marks: dict[str, float] = {}
+
+    def take(self, traced: list[dict[str, Any]]) -> None:
+        """Takes what the browser traced."""
+        named = {(it["pid"], it["tid"]): it["args"]["name"] for it in traced if it["name"] == "thread_name"}
+        for it in traced:
+            if it.get("cat") == MARKS:
+                self._marks[it["name"]] = it["ts"]
+            elif it["name"] == TASK and "tdur" in it:
+                thread, ms = named.get((it["pid"], it["tid"])), it["tdur"] / 1000
+                if thread == MAIN_THREAD:
+                    self.append(ms)
+                elif thread == WORKER_THREAD:
+                    self.workers.append(ms)
+                    self._timed.append((it["ts"], it["ts"] + it["dur"], ms))
+
+    def between(self, begin: str, end: str) -> float:
+        """Returns how many milliseconds of a processor the tasks of all workers took that ran between two marks of the page, those at its
+        ends as a whole: `performance.mark` makes a mark."""
+        first, last = self._marks[begin], self._marks[end]
+        return sum(ms for begun, ended, ms in self._timed if begun < last and ended > first)
 
 
 class Pipe:
@@ -161,7 +193,8 @@ class Page:
         self._says_yes = True
         self._is_gone = False
         self._is_timed = False
-        # What the browser traced, and whether it told all of it.
+        # The workers that the driver is attached to; what the browser traced, and whether it told all of it.
+        self._workers: list[str] = []
         self._traced: list[dict[str, Any]] = []
         self._is_traced = True
         self._target = self._ask("Target.createTarget", url="about:blank")["targetId"]
@@ -356,6 +389,18 @@ class Page:
         used: float = self._ask("Runtime.getHeapUsage")["usedSize"]
         return used
 
+    def worker_heaps(self) -> list[float]:
+        """Returns the bytes that the script of each worker of the page has in use, with its buffers if the browser counts them, garbage left out."""
+        self._workers = []
+        self._ask("Target.setAutoAttach", autoAttach=True, waitForDebuggerOnStart=False, flatten=True)
+        found = []
+        for session in self._workers:
+            self._ask_in(session, "HeapProfiler.collectGarbage")
+            usage = self._ask_in(session, "Runtime.getHeapUsage")
+            found.append(usage["usedSize"] + usage.get("backingStorageSize", 0))
+        self._ask("Target.setAutoAttach", autoAttach=False, waitForDebuggerOnStart=False, flatten=True)
+        return found
+
     def task_seconds(self) -> float:
         """Returns the processor time that the tasks of the page's own thread took, from the first call on."""
         if not self._is_timed:
@@ -366,10 +411,10 @@ class Page:
         return seconds
 
     @contextmanager
-    def measuring(self) -> Iterator[list[float]]:
+    def measuring(self) -> Iterator[Tasks]:
         """Measures the tasks of pages' own threads: once the block is over the list has the milliseconds that each one took of a processor, which
         are hardly more where much else runs."""
-        found: list[float] = []
+        found = Tasks()
         self._traced, self._is_traced = [], False
         self._ask("Tracing.start", transferMode="ReportEvents", traceConfig=TRACED)
         yield found
@@ -379,9 +424,7 @@ class Page:
         self._ask("Tracing.end")
         while not self._is_traced:
             self._read()
-        named = [it for it in self._traced if it["name"] == "thread_name" and it["args"]["name"] == MAIN_THREAD]
-        own = {(it["pid"], it["tid"]) for it in named}
-        found += [it["tdur"] / 1000 for it in self._traced if it["name"] == TASK and "tdur" in it and (it["pid"], it["tid"]) in own]
+        found.take(self._traced)
 
     def close(self) -> None:
         """Closes the page. What the browser asks first is answered."""
@@ -392,8 +435,10 @@ class Page:
         self._copy.cleanup()
 
     def _ask(self, method: str, **parameters: object) -> dict[str, Any]:
-        session = {"sessionId": self._session} if self._session else {}
-        asked = self._pipe.send({"method": method, "params": parameters, **session})
+        return self._ask_in(self._session, method, **parameters)
+
+    def _ask_in(self, session: str, method: str, **parameters: object) -> dict[str, Any]:
+        asked = self._pipe.send({"method": method, "params": parameters, **({"sessionId": session} if session else {})})
         while (told := self._read()).get("id") != asked:
             pass
         if "error" in told:
@@ -413,6 +458,8 @@ class Page:
             self.errors.append(str(told["args"]))
         elif method == "Log.entryAdded":
             self.errors.append(told["entry"]["text"])
+        elif method == "Target.attachedToTarget" and told["targetInfo"]["type"] == "worker":
+            self._workers.append(told["sessionId"])
         elif method == "Target.detachedFromTarget":
             self._is_gone |= told["sessionId"] == self._session
         elif method == "Page.javascriptDialogOpening":
@@ -427,7 +474,7 @@ class Page:
         elif method == "Network.requestWillBeSent":
             self.requests.append(told["request"]["url"])
         elif method == "Tracing.dataCollected":
-            self._traced += [it for it in told["value"] if it["name"] in ("thread_name", TASK)]
+            self._traced += [it for it in told["value"] if it["name"] in ("thread_name", TASK) or it.get("cat") == MARKS]
         elif method == "Tracing.tracingComplete":
             self._is_traced = True
         elif method == "Browser.downloadWillBegin":

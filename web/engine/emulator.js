@@ -62,10 +62,11 @@ export class Emulator {
    * @param {Inputs} inputs
    * @param {number} taken
    * @param {number} to
+   * @param {number} room
    * @returns {Bytes} */
-  run(inputs, taken, to) {
-    const code = this.call(inputs.bytes.subarray(INPUT_BYTES * taken, INPUT_BYTES * inputs.from(to, taken)), to);
-    if (code === NO_ROOM && to - this.count > 1) return this.run(inputs, taken, this.count + Math.floor((to - this.count) / 2));
+  run(inputs, taken, to, room = SENT_ROOM) {
+    const code = this.call(inputs.bytes.subarray(INPUT_BYTES * taken, INPUT_BYTES * inputs.from(to, taken)), to, room);
+    if (code === NO_ROOM && to - this.count > 1) return this.run(inputs, taken, this.count + Math.floor((to - this.count) / 2), room);
     if (code !== DONE) throw new Refused(ADVANCE_REFUSALS[code]);
     return this.library.bytes(this.sentAddress, Number(this.library.view.getBigUint64(this.sentCount, true))).slice();
   }
@@ -73,11 +74,12 @@ export class Emulator {
   /**
    * @param {Bytes} inputs
    * @param {number} to
+   * @param {number} room
    */
-  call(inputs, to) {
+  call(inputs, to, room) {
     const many = inputs.length / INPUT_BYTES, list = many > INPUTS_AT_ONCE ? this.library.hold(inputs) : this.list;
     this.library.bytes(list, inputs.length).set(inputs);
-    const given = [this.address, this.address + STATE_BYTES, WORDS, list, many, to, this.sentAddress, SENT_ROOM, this.sentCount];
+    const given = [this.address, this.address + STATE_BYTES, WORDS, list, many, to, this.sentAddress, room, this.sentCount];
     const code = this.library.exports.galluspa_advance(...given.map(BigInt)) & 255;
     if (list !== this.list) this.library.leave(list);
     return code;

@@ -179,7 +179,7 @@ export class Machine extends Playback {
   /** Runs up to a count or less, and returns the bytes that the machine sent.
    * @param {number} to */
   advance(to) {
-    const sent = this.run(this.inputs, this.next, to);
+    const sent = this.run(this.inputs, this.next, to, this.sentRoom);
     this.next = this.inputs.from(this.count, this.next);
     this.recorder.note(sent);
     this.sentTotal += sent.length;
@@ -203,11 +203,9 @@ export class Machine extends Playback {
     return !this.recording || !this.isReplay;
   }
 
-  /** Returns the count up to which what the machine may send has room in the recording: it sends at most a byte with each
-   * instruction. */
-  get roomEnd() {
-    const isBounded = this.isOwnRecording && !this.recorder.full && !this.part("stop");
-    return isBounded ? this.count + this.recorder.room : Infinity;
+  /** How many bytes the machine may send in one run: those for which the recording has room, or that of one instruction. */
+  get sentRoom() {
+    return this.isOwnRecording && !this.recorder.full ? Math.max(1, this.recorder.room) : undefined;
   }
 
   /** Ends the recording with a checkpoint here if one of its limits is near. If there can be no more inputs, it has a checkpoint

@@ -55,12 +55,21 @@ export class Records {
    * @returns {[number, string][]} */
   effects() {
     /** @type {Map<number, string>} */
-    const did = new Map();
+    const did = new Map(), { view } = this;
     for (let at = this.length - 1; at >= 0; at--) {
-      const state = this.state(at), pc = field(state, AT.PC);
-      if (!did.has(pc) && !field(state, AT.stop)) did.set(pc, this.done(at).did);
+      const pc = view.getUint32(RECORD_BYTES * at + AT.PC, true);
+      if (!did.has(pc) && !view.getUint32(RECORD_BYTES * at + AT.stop, true)) did.set(pc, this.did(at));
     }
     return [...did];
+  }
+
+  /** Says what an instruction did, though it may have changed nothing: the register or the word that it wrote, or where it went.
+   * @param {number} at */
+  did(at) {
+    const before = this.state(at), after = this.state(at + 1), word = this.word(at), [, bytes, isStore] = this.bytes.subarray(RECORD_BYTES * at + DOES.flags, RECORD_BYTES * (at + 1));
+    if (field(after, AT.stop)) return "stops";
+    if (isStore) return `Mem[${hex(addressIn(word ?? 0, before), 6)}] = ${hex(this.view.getUint32(RECORD_BYTES * at + DOES.new, true), 2 * bytes)}`;
+    return didText(word, before, after);
   }
 
   /** Returns what an instruction read and wrote, as names and texts, and the number that it wrote; that of a branch is where it went. The address of a load or a
@@ -93,8 +102,7 @@ export class Records {
     const taken = this.taken(at).map(([, kind, value]) => [kind, value]);
     const changes = changesBetween(before, after), address = has(DOES.address), [old, now] = [DOES.old, DOES.new].map((offset) => hex(has(offset), 2 * bytes)), name = `Mem[${hex(address, 6)}]`;
     if (isStore && old !== now && address < DEVICES) changes.push([name, old, now]);
-    const did = field(after, AT.stop) ? "stops" : isStore ? `Mem[${hex(addressIn(word ?? 0, before), 6)}] = ${now}` : didText(word, before, after);
-    return { count: Number(view.getBigUint64(RECORD_BYTES * at, true)), pc: field(before, AT.PC), word, inputs: taken, changes, did, loads: bytes && !isStore ? address : null };
+    return { count: Number(view.getBigUint64(RECORD_BYTES * at, true)), pc: field(before, AT.PC), word, inputs: taken, changes, did: this.did(at), loads: bytes && !isStore ? address : null };
   }
 }
 
@@ -106,7 +114,7 @@ const DEVICES = 0xffffc0;
  * @param {Bytes} state */
 export const addressIn = (word, state) => (field(state, AT.R + 4 * (word >>> 20 & 15)) + (word << 12 >> 12)) & 0xffffff;
 
-/** Says what an instruction did last that stores nothing, though it may have changed nothing: the register that it wrote, or where it went.
+/** Says what an instruction did that stores nothing: the register that it wrote, or where it went.
  * @param {number | null} word
  * @param {Bytes} before
  * @param {Bytes} after */

@@ -85,6 +85,7 @@ export const LIVE = {
     machine.feed();
     const sent = machine.advance(machine.count + 1);
     reached();
+    feed?.post();
     show(sent);
   },
   /** @param {Requests["toCheckpoint"][0]} given */

@@ -14,11 +14,12 @@ import { Inputs } from "../formats/inputs.js";
 import { readRecording } from "../formats/recordings.js";
 import { Keyframes } from "../engine/keyframes.js";
 import { Procedures } from "../engine/procedures.js";
+import { MOST_BEFORE, Recent } from "../engine/recent.js";
 import { Refused } from "../formats/refused.js";
 import { Replayer } from "../engine/replayer.js";
 import { Finder } from "../engine/finder.js";
 import { Stacks } from "../engine/stacks.js";
-import { AT, field, joined, MEMORY_BYTES, PAGES, wordsOf } from "../formats/states.js";
+import { joined, MEMORY_BYTES, PAGES, wordsOf } from "../formats/states.js";
 import { Ended, isWhole, nextTask, unlessEnded } from "../engine/tasks.js";
 import { Tracing } from "../engine/tracing.js";
 import { Visits } from "../engine/visits.js";
@@ -28,7 +29,7 @@ import { Writers } from "../engine/writers.js";
 const SLOW_MS = 30;
 // After a look there are keyframes about so far before it, so that steps back are short.
 const NEAR = [262144, 16384, 1024, 64, 4];
-const LISTED_BEFORE = 16, LISTED_AFTER = 32, MOST_AROUND = 512, MOST_BEFORE = 4096;
+const LISTED_BEFORE = 16, LISTED_AFTER = 32;
 
 /** What is done with the machine at a count; `turn` lets others go first.
  * @template T
@@ -83,6 +84,7 @@ export class History {
     this.procedures = new Procedures(this);
     this.frames = new Frames(this);
     this.lists = new HitLists(this);
+    this.recent = new Recent(this);
     this.executions = new Executions(this);
     this.writers = new Writers(this);
     this.tracing = new Tracing(this);
@@ -299,9 +301,9 @@ export class History {
       this.report({ peeked: { generation: Number(generation), at, exact: false, ...pictureOf(looker) } });
     };
     return this.look({ generation, at }, async (turn) => {
-      const mayBeClaimed = this.mayBeClaimed(at), isRead = hasEffects && !quick && !mayBeClaimed, from = isRead ? Math.max(0, at - MOST_BEFORE) : at;
-      await this.reach(looker, from, turn, { mayBeClaimed, heard });
-      const effects = from < at ? looker.record(this.inputs, at - from).effects() : null;
+      const mayBeClaimed = this.mayBeClaimed(at), isRead = hasEffects && !quick && !mayBeClaimed;
+      const effects = isRead ? await this.recent.effectsBefore(at, MOST_BEFORE, turn, heard) : null;
+      await this.reach(looker, at, turn, { mayBeClaimed, heard });
       Object.assign(this, { cursor: at, isSettled: quick });
       const listing = quick ? null : looker.listing(LISTED_BEFORE, LISTED_AFTER).map(([pc, word]) => ({ pc, word }));
       return { at, exact: true, ...pictureOf(looker), listing, effects };
@@ -362,30 +364,6 @@ export class History {
     return this.look({ generation, at }, async (turn) => {
       await this.reach(this.looker, at, turn, { mayBeClaimed: this.mayBeClaimed(at) });
       return task(this.looker);
-    });
-  }
-
-  /** Returns the instructions before and after a count, as far as the machine does any, with what each changed.
-   * @param {Requests["around"][0]} given */
-  around({ generation, at, before, after }) {
-    if (!(isWhole(before) && isWhole(after) && before + after <= MOST_AROUND)) throw new Refused(`more than ${MOST_AROUND} instructions`);
-    return this.look({ generation, at }, async (turn) => {
-      const { looker } = this, end = Math.min(at + after, Math.max(at, this.end));
-      await this.reach(looker, Math.max(0, at - before), turn, { mayBeClaimed: this.mayBeClaimed(at) });
-      if (looker.count === end) return [];
-      const records = looker.record(this.inputs, end - looker.count), numbers = Array.from({ length: records.length }, (_, number) => number);
-      return numbers.filter((number) => !field(records.state(number), AT.stop)).map((number) => records.done(number));
-    });
-  }
-
-  /** Returns what each word did last that was executed in the last instructions before a count.
-   * @param {Requests["effects"][0]} given */
-  effects({ generation, at, before }) {
-    if (!(isWhole(before) && before <= MOST_BEFORE)) throw new Refused(`more than ${MOST_BEFORE} instructions`);
-    return this.look({ generation, at }, async (turn) => {
-      const { looker } = this, from = Math.max(0, at - before);
-      await this.reach(looker, from, turn, { mayBeClaimed: this.mayBeClaimed(at) });
-      return from < at ? looker.record(this.inputs, at - from).effects() : [];
     });
   }
 }

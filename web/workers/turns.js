@@ -51,6 +51,7 @@ export function setRun({ on, fast = false, goal = null, seconds = 0, then = null
 export function endRun() {
   Object.assign(run, { on: false, goal: null });
   machine.stamp(() => machine.count);
+  feed?.ended();
 }
 
 /** Changes the speed of the run, or how often there is a checkpoint. The goal stays.
@@ -65,6 +66,7 @@ function tick() {
   if (!run.on) return;
   try {
     const begun = performance.now(), wasReplay = machine.isReplay;
+    feed?.begun();
     const sent = isAtEnd() ? turnTo(machine.end, begun + LAG_MS) : run.fast ? fastTurn(begun) : clockedTurn(begun);
     feed?.follow(run.fast, performance.now() - begun);
     run.busy += performance.now() - begun;
@@ -171,7 +173,7 @@ function turnTo(to, deadline) {
     piece = machine.arrivals.typed < waited ? least : 2 * piece;
     const pieceEnd = waits && performance.now() < pieced ? machine.count + piece : Infinity;
     machine.foresee();
-    const stop = Math.min(to, machine.nextStop(run.seconds, machine.trueTo), run.goal ?? Infinity, pieceEnd, machine.roomEnd, MOST_COUNT);
+    const stop = Math.min(to, machine.nextStop(run.seconds, machine.trueTo), run.goal ?? Infinity, pieceEnd, MOST_COUNT);
     if (stop <= machine.count) break;
     const end = breaks.length || run.returns ? breakBefore(stop) : stop;
     if (end > machine.count) sent.push(machine.advance(end)), reached();

@@ -320,10 +320,11 @@ const currentWord = () => (app.latest?.on ? -1 : field(shownState(), AT.PC));
 export function showSourceNow() {
   if (!editor || !isTab("source")) return;
   set("source-again", { disabled: !runningProgram() });
+  const { moment } = cursor, isStill = app.latest !== null && !app.latest.on, isRun = isStill && runningProgram() !== null;
+  if (isStill) showCurrentLine();
+  if (isRun && moment?.effects && moment.at === shownCount()) effects = { count: moment.at, of: new Map(moment.effects) };
   editor.showBeside();
-  if (!app.latest || app.latest.on) return;
-  showCurrentLine();
-  if (runningProgram()) attempt(lookAtEffects);
+  if (isRun && effects.count !== shownCount()) attempt(lookAtEffects);
 }
 
 /** Puts the current line in sight once the machine comes to it, in whichever source of the program it is; not while someone writes. */
@@ -350,11 +351,9 @@ function currentPlace() {
   return { file, line: file === desk.file ? lineOfWord(word) : own.parts.get(file)?.lines.get(word) ?? null };
 }
 
-/** Shows what the instructions before the count that is looked at did: a moment may have it, else it is asked for. */
+/** Asks what the instructions before the count that is looked at did, and shows it. */
 async function lookAtEffects() {
-  const count = shownCount(), { generation } = app.work;
-  if (effects.count === count) return;
-  const done = (cursor.moment?.at === count && cursor.moment.effects) || (await app.past.effects(count, EFFECTS_BEFORE));
+  const count = shownCount(), { generation } = app.work, done = await app.past.effects(count, EFFECTS_BEFORE);
   if (!done || count !== shownCount() || app.latest?.on || generation !== app.work.generation) return;
   effects = { count, of: new Map(done) };
   editor.showBeside();
