@@ -37,8 +37,8 @@ def milliseconds_to_check(desk: Desk, name: str, recording: bytes) -> float:
 
 
 def check_hour(desk: Desk) -> None:
-    """A recording of an hour in which the program waits is checked in twice the time that the program `oberon_replay` takes, or in two seconds."""
-    recording = record(waiting(desk, HOUR, 200))
+    """A recording of an hour in which the program waits for ten thousand keys is checked in twice the time that the program `oberon_replay` takes, or in two seconds."""
+    recording = record(waiting(desk, HOUR, 10000))
     before = os.times()
     ran = run([PROGRAM, "check"], recording)
     after = os.times()
@@ -47,7 +47,7 @@ def check_hour(desk: Desk) -> None:
     expect("the line of an hour", desk.page.answer(LINE), ran.output.decode().rstrip("\n"))
     if took > max(2 * own, HOUR_MS):
         fail(f"the check of an idle hour takes the page {took:.0f} ms of the processor, and the program {own:.0f} ms")
-    print(f"waiting: an hour with 200 keys is checked in {took:.0f} ms of the processor, and by the program in {own:.0f} ms")
+    print(f"waiting: an hour with 10,000 keys is checked in {took:.0f} ms of the processor, and by the program in {own:.0f} ms")
 
 
 def run_to_last_count(desk: Desk) -> None:

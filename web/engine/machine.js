@@ -203,6 +203,12 @@ export class Machine extends Playback {
     return !this.recording || !this.isReplay;
   }
 
+  /** The count up to which a live machine runs at once: as many counts as the recording has room for bytes, so that one that waits does not come to the
+   * last count in a moment. */
+  get roomEnd() {
+    return this.isReplay || this.recorder.full || this.part("stop") ? Infinity : this.count + this.recorder.room;
+  }
+
   /** How many bytes the machine may send in one run: those for which the recording has room, or that of one instruction. */
   get sentRoom() {
     return this.isOwnRecording && !this.recorder.full ? Math.max(1, this.recorder.room) : undefined;

@@ -9,8 +9,8 @@ import { Refused } from "../formats/refused.js";
 import { equal, joined, PAGE_BYTES, PAGES, STATE_BYTES } from "../formats/states.js";
 
 const SLICE_STEPS = 10000000, FIRST_STEPS = 1000000;
-// A frame has more steps while a call takes less than half of FRAME_MS, as the machine waits, but at most LONGEST_FRAME.
-const FRAME_MS = 100, LONGEST_FRAME = 2 ** 32;
+// A frame has more steps while a call takes less than half of FRAME_MS, as the machine waits, but at most LONGEST_FRAME, or LONGEST_WITH_INPUTS beyond an input.
+const FRAME_MS = 100, LONGEST_FRAME = 2 ** 32, LONGEST_WITH_INPUTS = 250000000;
 
 /** @typedef {import("./machine.js").Machine} Machine */
 
@@ -193,23 +193,24 @@ export class Checker {
   run(recording, size, report) {
     const { machine } = this, [, { count, sent }] = recording.claims;
     machine.beginRecording(recording, 0);
-    let steps = size;
+    let steps = size, least = size;
     for (this.sent = 0; count - machine.count > size && !machine.part("stop"); report(machine.count)) {
-      const first = machine.count, begun = performance.now(), now = machine.advance(Math.min(this.frameEnd(steps, size), count - size));
+      const first = machine.count, begun = performance.now(), now = machine.advance(Math.min(this.frameEnd(steps, least), count - size));
       if (!equal(now, sent.subarray(this.sent, this.sent + now.length))) return false;
       this.sent += now.length;
-      const done = machine.count - first, ms = performance.now() - begun;
-      steps = ms < FRAME_MS / 2 ? Math.min(2 * Math.max(done, size), LONGEST_FRAME) : Math.max(Math.floor(done * FRAME_MS / ms), size);
+      const done = machine.count - first, ms = performance.now() - begun, isShort = ms < FRAME_MS / 2;
+      steps = isShort ? Math.min(2 * Math.max(done, size), LONGEST_FRAME) : Math.max(Math.floor(done * FRAME_MS / ms), size);
+      least = isShort ? Math.min(2 * least, Math.max(size, LONGEST_WITH_INPUTS)) : size;
     }
     return true;
   }
 
-  /** Returns where a frame of a number of steps ends. What comes after an input may take long, so a frame of more than the usual size ends there.
+  /** Returns where a frame of a number of steps ends. What comes after an input may take long, so a frame ends at the next one, or after the `least` steps.
    * @param {number} steps
-   * @param {number} size */
-  frameEnd(steps, size) {
+   * @param {number} least */
+  frameEnd(steps, least) {
     const { count, inputs } = this.machine, at = inputs.from(count), due = at < inputs.length ? inputs.count(at) : Infinity;
-    return Math.min(count + steps, Math.max(due, count + size));
+    return Math.min(count + steps, Math.max(due, count + least));
   }
 
   /** Returns the recording that begins with the machine's state and ends with what the slice claims, and its number of steps.

@@ -173,7 +173,7 @@ function turnTo(to, deadline) {
     piece = machine.arrivals.typed < waited ? least : 2 * piece;
     const pieceEnd = waits && performance.now() < pieced ? machine.count + piece : Infinity;
     machine.foresee();
-    const stop = Math.min(to, machine.nextStop(run.seconds, machine.trueTo), run.goal ?? Infinity, pieceEnd, MOST_COUNT);
+    const stop = Math.min(to, machine.nextStop(run.seconds, machine.trueTo), run.goal ?? Infinity, pieceEnd, machine.roomEnd, MOST_COUNT);
     if (stop <= machine.count) break;
     const end = breaks.length || run.returns ? breakBefore(stop) : stop;
     if (end > machine.count) sent.push(machine.advance(end)), reached();
