@@ -162,9 +162,8 @@ class Desk:
         self.page.wait("galluspa.frame().on")
 
     def pause(self) -> None:
-        """Pauses the machine, once it runs: before, the button would run it."""
-        self.page.wait("galluspa.frame().on")
-        self.click("run")
+        """Pauses the machine, unless its run has ended meanwhile, as that of a game that is over: then the button would run it."""
+        self.page.answer("galluspa.frame().on && el('run').click()")
         self.page.wait("!galluspa.frame().on")
 
     def expect_line(self, what: str, text: bytes) -> None:

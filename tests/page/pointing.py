@@ -252,7 +252,9 @@ def long_source() -> str:
     """Returns a source of two thousand lines: a hundred procedures, which a loop calls in turn. In the last 4,096 instructions all of them are executed."""
     body = [line for at in range(0, 24, 4) for line in (f"STR R1, R2, {at}", f"LDR R3, R2, {at}", "ADD R4, R4, R3")]
     calls = [("        " if at else "loop:   ") + f"BL work{at}" for at in range(100)]
-    procedures = [line for at in range(100) for line in (f"work{at}: ADD R1, R1, 3", *(f"        {it}" for it in body[:17]), "        B LNK")]
+    procedures = [
+        line for at in range(100) for line in (f"work{at}: ADD R1, R1, 3", *(f"        {it}" for it in body[:17]), "        B LNK")
+    ]
     return "\n".join(["        MOV R2, 8000H", *calls, "        B loop", *procedures, ""])
 
 
@@ -271,7 +273,9 @@ def see_values_of_long_source(desk: Desk) -> None:
             press()
             page.wait("!galluspa.frame().on && countBefore < 0")
         took.setdefault(what, []).append(tasks.between("pressed", "seen"))
-        in_sight = page.answer("[...editor.gutter.shown.keys()].filter((at) => wordOfLine(at) > 0).map((at) => Boolean(editor.rows[at].dataset.did))")
+        in_sight = page.answer(
+            "[...editor.gutter.shown.keys()].filter((at) => wordOfLine(at) > 0).map((at) => Boolean(editor.rows[at].dataset.did))"
+        )
         expect(f"whether the lines in sight have what they did after {what}", (len(in_sight) > 20, all(in_sight)), (True, True))
 
     for count in (100_000_000, 150_000_000, 200_000_000):

@@ -78,8 +78,12 @@ def search_many(desk: Desk) -> None:
         if max(*tasks, *tasks.workers) <= LONGEST_TASK_MS:
             break
     if max(*tasks, *tasks.workers) > LONGEST_TASK_MS:
-        fail(f"a task took {max(tasks):.0f} ms of the processor when {MANY} checkpoints were searched, and one of a worker {max(tasks.workers):.0f} ms")
-    print(f"search: among {MANY} checkpoints; the longest task {max(tasks):.0f} ms of the processor, and of a worker {max(tasks.workers):.0f} ms")
+        fail(
+            f"a task took {max(tasks):.0f} ms of the processor when {MANY} checkpoints were searched, and one of a worker {max(tasks.workers):.0f} ms"
+        )
+    print(
+        f"search: among {MANY} checkpoints; the longest task {max(tasks):.0f} ms of the processor, and of a worker {max(tasks.workers):.0f} ms"
+    )
 
 
 def take_over_between(desk: Desk) -> None:

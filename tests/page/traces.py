@@ -281,10 +281,14 @@ def compare_long(desk: Desk) -> None:
         else:
             desk.click_on(button_of("el('card')", "Cancel"))
         page.wait(COMPARED)
-        if not re.search(r"It was cancelled\.\s+The same in [\d,]+ lines, up to count [\d,]+; [\d.]+ of [\d.]+ MB were read\.", page.answer(CARD)):
+        if not re.search(
+            r"It was cancelled\.\s+The same in [\d,]+ lines, up to count [\d,]+; [\d.]+ of [\d.]+ MB were read\.", page.answer(CARD)
+        ):
             fail(f"after {how} the card says {page.answer(CARD)!r}")
     if heaps[-1] > heaps[-2] + MOST_GROWTH:
-        fail(f"the scripts of the workers have {heaps[-2]:,} bytes after a twentieth of the lines, and {heaps[-1]:,} after two fifths")
+        fail(
+            f"the scripts of the workers have {heaps[-2]:,} bytes after a twentieth of the lines, and {heaps[-1]:,} after two fifths"
+        )
     print(
         f"long: {LINES:,} lines, {each:.1f} µs of the processor each, the longest task {max(tasks):.0f} ms, in a worker {max(tasks.workers):.0f} ms; "
         f"{heaps[-1] / 1e6:.1f} MB in the workers, {(heaps[-1] - heaps[-2]) / 1e6:+.1f} MB after {0.35 * LINES:,.0f} lines; cancelled by Esc and by a button"
