@@ -28,6 +28,7 @@ from tests.page import (
     traces,
     use,
     walk,
+    windows,
     writing,
 )
 from tests.page.desk import Desk
@@ -45,7 +46,7 @@ PARTS: Mapping[str, Sequence[Task]] = {
     "touch": touch.TASKS,
     "stops": stops.TASKS,
     "offers": offers.TASKS,
-    "layout": layout.TASKS,
+    "layout": (*layout.TASKS, *windows.TASKS),
     "everyone": everyone.TASKS,
     "replays": replays.TASKS,
     "playing": playing.TASKS,
