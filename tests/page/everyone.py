@@ -206,10 +206,11 @@ def see_contrast(desk: Desk) -> None:
     run_to_end(desk, "face.orsr", FACE)
     # Once all is known, nothing is hatched.
     page.wait("!el('lists').textContent.includes('not known')")
-    for count in (8000000, 9000000):
-        look_at(desk, count)
+    # Each scheme has the lanes drawn once more.
+    for scheme in ("dark", "light"):
+        page.prefer(scheme)
         page.answer(SETTLED)
-        expect("how strongly the axis of the timeline is drawn", page.answer(AXIS), 255)
+        expect(f"how strongly the axis of the timeline is drawn, {scheme}", page.answer(AXIS), 255)
     print("contrast: 4.5 : 1 for each text, light and dark, with each tab and the form of a report; the timeline is never pale")
 
 
