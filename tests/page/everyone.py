@@ -72,6 +72,17 @@ CUT = """
 """
 
 
+# How strongly the axis of the timeline is drawn: the opacity of its strongest dot, of 255.
+AXIS = """
+(() => {
+  const { width } = el("lanes"), copy = new OffscreenCanvas(width, 12).getContext("2d", { willReadFrequently: true });
+  copy.drawImage(el("lanes"), 0, 0);
+  const { data } = copy.getImageData(0, 0, width, 12);
+  return data.reduce((most, part, at) => (at % 4 === 3 ? Math.max(most, part) : most), 0);
+})()
+"""
+
+
 def look_first(desk: Desk) -> None:
     """An empty page plays a recorded game behind its cards until a key is pressed, says in a sentence what it is, and shows neither registers nor words for nothing."""
     page = desk.page
@@ -107,7 +118,9 @@ def look_first(desk: Desk) -> None:
 def stops_of(desk: Desk, what: str) -> list[str]:
     """Goes through the whole page by Tab, from its first control on, and returns the names of its stops. Each is in sight, and shows that it has the focus."""
     page, names = desk.page, list[str]()
-    page.answer("document.body.tabIndex = -1; document.body.focus(); document.body.removeAttribute('tabindex'); scrollTo(0, 0)")
+    page.answer(
+        "document.body.tabIndex = -1; document.body.focus(); document.body.removeAttribute('tabindex'); window.scrollTo(0, 0)"
+    )
     for _ in range(200):
         page.press("Tab")
         stop = page.answer(STOP)
@@ -186,8 +199,19 @@ def see_contrast(desk: Desk) -> None:
             page.answer(f"showTab({name!r})")
             page.answer(SETTLED)
             expect(f"faint texts of {name}, {scheme}", page.answer(FAINT), [])
+        page.answer("el('report').open = true")
+        expect(f"faint texts of the form of a report, {scheme}", page.answer(FAINT), [])
+        page.answer("el('report').open = false")
     page.prefer("light")
-    print("contrast: 4.5 : 1 for each text, light and dark, with each tab")
+    run_to_end(desk, "face.orsr", FACE)
+    # Once all is known, nothing is hatched.
+    page.wait("!el('lists').textContent.includes('not known')")
+    # Each scheme has the lanes drawn once more.
+    for scheme in ("dark", "light"):
+        page.prefer(scheme)
+        page.answer(SETTLED)
+        expect(f"how strongly the axis of the timeline is drawn, {scheme}", page.answer(AXIS), 255)
+    print("contrast: 4.5 : 1 for each text, light and dark, with each tab and the form of a report; the timeline is never pale")
 
 
 def fit_fingers(desk: Desk) -> None:

@@ -13,7 +13,7 @@ SPAN = "new Promise((done) => requestAnimationFrame(() => requestAnimationFrame(
 # Which of the things in a row overlap, or are not in the window.
 OVERLAPS = """
 (() => {
-  const all = [...document.querySelectorAll("#galluspa .transport > *, #galluspa .keys button, #galluspa .choices button, #galluspa .last > *, #galluspa .top > *, #g-mode > *")]
+  const all = [...document.querySelectorAll("#galluspa .transport > *, #galluspa .keys button, #galluspa .choices button, #galluspa .last > *, #galluspa .top > *, #g-verdicts > *, #g-mode > *")]
     .filter((it) => it.checkVisibility() && it.getBoundingClientRect().width > 1);
   const box = (it) => it.getBoundingClientRect(), found = [];
   for (const one of all) {
@@ -169,7 +169,7 @@ def turn_wheel(desk: Desk) -> None:
     page.resize(800, 700)
     run_to_end(desk, "face.orsr", FACE)
     middle = "(({ left, top, width, height }) => [left + width / 2, top + height / 2])(el('track').getBoundingClientRect())"
-    page.answer("scrollTo(0, 0); el('track').scrollIntoView({ block: 'nearest' })")
+    page.answer("window.scrollTo(0, 0); el('track').scrollIntoView({ block: 'nearest' })")
     before, place = page.answer(SPAN), page.answer("scrollY")
     x, y = page.answer(middle)
     page.turn_wheel(x, y, 200)
@@ -178,7 +178,7 @@ def turn_wheel(desk: Desk) -> None:
     x, y = page.answer(middle)
     page.turn_wheel(x, y, -200, ctrl=True)
     page.wait(f"timeline.to - timeline.from < {before[1] - before[0]}")
-    page.answer("scrollTo(0, 0)")
+    page.answer("window.scrollTo(0, 0)")
     print("wheel: it scrolls the page, and zooms with Ctrl")
 
 
@@ -187,7 +187,7 @@ def fit_phone(desk: Desk) -> None:
     page = desk.page
     page.resize(400, 800)
     run_to_end(desk, "face.orsr", FACE)
-    page.answer(f"scrollTo(0, 0); {SETTLED}")
+    page.answer(f"window.scrollTo(0, 0); {SETTLED}")
     high = page.answer("document.querySelector('.top').offsetHeight")
     if high > 100:
         fail(f"what is above the screen of a phone has {high} points")
@@ -219,7 +219,7 @@ def show_cards(desk: Desk) -> None:
     cards = "[...el('welcome').querySelectorAll('button')].filter((it) => it.checkVisibility())"
     for width, height in WINDOWS:
         page.resize(width, height)
-        page.answer(f"scrollTo(0, 0); {SETTLED}")
+        page.answer(f"window.scrollTo(0, 0); {SETTLED}")
         expect(f"the cards at {width} by {height}", page.answer(f"{cards}.length"), 4)
         expect(
             f"the cards that are cut at {width} by {height}",
@@ -266,13 +266,19 @@ def end_game(desk: Desk) -> None:
     page.wait("el('state').checkVisibility() && galluspa.isPast()")
     for width, height in WINDOWS:
         page.resize(width, height)
-        page.answer(f"scrollTo(0, 0); {SETTLED}")
+        page.answer(f"window.scrollTo(0, 0); {SETTLED}")
         parts = "[...el('card').children].filter((it) => it.checkVisibility() && it.offsetHeight), ...el('stay').querySelectorAll('.keys button:not(.wide)')"
         expect(
             f"what is out of sight at {width} by {height}",
             page.answer(f"[...{parts}].filter((it) => !({WHOLE})(it)).map((it) => it.outerHTML)"),
             [],
         )
+        if width == 400:
+            expect(
+                "whether what is below the screen is one row",
+                page.answer("document.querySelector('.under').offsetHeight < 40"),
+                True,
+            )
         if width >= 1024:
             cells = "[...el('state').querySelectorAll('dd')].slice(0, 16)"
             expect(

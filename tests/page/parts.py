@@ -29,6 +29,7 @@ from tests.page import (
     use,
     waiting,
     walk,
+    windows,
     writing,
 )
 from tests.page.desk import Desk
@@ -46,7 +47,7 @@ PARTS: Mapping[str, Sequence[Task]] = {
     "touch": touch.TASKS,
     "stops": stops.TASKS,
     "offers": offers.TASKS,
-    "layout": layout.TASKS,
+    "layout": (*layout.TASKS, *windows.TASKS),
     "everyone": everyone.TASKS,
     "replays": replays.TASKS,
     "playing": playing.TASKS,

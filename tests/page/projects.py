@@ -16,6 +16,15 @@ ENTRIES = "[...el('kept-list').children].filter((it) => it.tagName === 'P').map(
 LABELS = "[...el('kept-list').children].filter((it) => it.tagName === 'BUTTON').map((it) => it.textContent)"
 ALL = "withKept('readonly', (store) => store.getAllKeys()).then((all) => all.length)"
 BOARD = "[...el('board').querySelectorAll('tr')].slice(1).map((row) => [...row.children].map((it) => it.textContent))"
+# The words of the board's heads that are in two lines.
+BROKEN = """
+[...el("board").querySelectorAll("th")].filter((it) => it.firstChild && it.checkVisibility()).flatMap((it) => it.textContent.split(" ").filter((word) => {
+  const range = document.createRange(), at = it.textContent.indexOf(word);
+  range.setStart(it.firstChild, at);
+  range.setEnd(it.firstChild, at + word.length);
+  return range.getClientRects().length > 1;
+}))
+"""
 # What is compared of a project that was exported: the count, the source, the breakpoints, the notes, the name, what was sent, and the line of the instruction.
 STATE = "[galluspa.cursor(), galluspa.count(), sourceField.text, [...breaks], [...pins], galluspa.work().name, el('out').textContent, currentPlace().line]"
 # Sends back each key.
@@ -342,6 +351,15 @@ def hand_in(desk: Desk) -> None:
         "refused: no recording in this page: Export makes pages with one, and so does Save a report",
     )
     expect("the pictures", page.answer("el('board').querySelectorAll('canvas').length"), 3)
+    for width, height in ((1400, 900), (800, 600), (400, 800)):
+        page.resize(width, height)
+        expect(
+            f"whether the board is as wide as its window at {width}",
+            page.answer("el('board').scrollWidth <= el('board').clientWidth"),
+            True,
+        )
+        expect(f"words of its heads that are broken at {width}", page.answer(BROKEN), [])
+    page.resize(1400, 900)
     desk.click_on("[...el('board').querySelectorAll('button')].find((it) => it.textContent === 'other')")
     page.wait("!el('board').open && galluspa.work().name === 'other' && galluspa.source().isRunning")
     print("projects: a board of hand-ins, by a model's checkpoints, with where they part; one is opened")

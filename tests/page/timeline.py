@@ -538,10 +538,10 @@ def look_narrow(desk: Desk) -> None:
     expect("the width of the page", page.answer("document.documentElement.scrollWidth"), 400)
     expect("the height of the lanes", page.answer("el('lanes').offsetHeight < 60"), True)
     for place in (0, 700, 1200):
-        page.answer(f"scrollTo(0, {place})")
+        page.answer(f"window.scrollTo(0, {place})")
         top, bottom = page.answer("(({ top, bottom }) => [top, bottom])(el('stay').getBoundingClientRect())")
         expect(f"whether the transport is in sight at {place}", 0 <= top < bottom <= 850, True)
-    page.answer("scrollTo(0, 0)")
+    page.answer("window.scrollTo(0, 0)")
     page.prefer("light")
     windows: tuple[tuple[int, int, int | None, str], ...] = ((1800, 1400, 1024, "pixelated"), (1280, 1100, None, "auto"))
     for width, height, wanted, rendered in windows:

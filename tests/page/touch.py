@@ -37,7 +37,7 @@ def drag_cursor(desk: Desk) -> None:
     """A finger drags the cursor into the past, and leaves it where it is lifted."""
     page = desk.page
     run_to_end(desk, "face.orsr", FACE)
-    page.answer("scrollTo(0, 0)")
+    page.answer("window.scrollTo(0, 0)")
     left, top, width = track(desk)
     page.touch("touchStart", (left + 0.9 * width, top + 30))
     for step in range(1, 30):
@@ -86,7 +86,7 @@ def pinch_running(desk: Desk) -> None:
     page.answer("el('speed').value = 'clock'")
     desk.draw()
     page.wait("galluspa.count() > 10000000")
-    page.answer("scrollTo(0, 0)")
+    page.answer("window.scrollTo(0, 0)")
     left, top, width = track(desk)
     page.touch("touchStart", (left + 0.3 * width, top + 30))
     page.touch("touchStart", (left + 0.3 * width, top + 30), (left + 0.6 * width, top + 30))

@@ -2,6 +2,9 @@
 /* The elements of the page: finding and making them, writing to them, and tasks on their events, each of which says so if it fails. */
 import { messageOf } from "../formats/texts.js";
 
+// How many points are left beside the sheet of a menu.
+const BESIDE = 8;
+
 /** Returns an element of the page by its name.
  * @template {string} Name
  * @param {Name} name
@@ -75,6 +78,22 @@ export const paragraph = (text, name) => made("p", text, name);
  */
 export function button(text, task) {
   return Object.assign(made("button", text), { type: "button", onclick: () => attempt(task) });
+}
+
+/** Makes a button that closes something.
+ * @param {string} what
+ * @param {Task} task */
+export function closer(what, task) {
+  return Object.assign(button("×", task), { className: "close", ariaLabel: what });
+}
+
+/** Moves the sheet of a menu sideways into the window.
+ * @param {Element} sheet */
+export function keepInWindow(sheet) {
+  if (!(sheet instanceof HTMLElement)) return;
+  sheet.style.translate = "";
+  const { left, right } = sheet.getBoundingClientRect();
+  sheet.style.translate = `${Math.max(BESIDE - left, Math.min(0, innerWidth - BESIDE - right))}px`;
 }
 
 /** Runs a task on an event of a control. If the task fails, the page says so.

@@ -7,7 +7,7 @@ import {
   cancelSerial, compose, enterSends, letGo, listenToKeyboard, makeDevices, mouseByFields, pointed, pressed, sendFile, sendSerial, switched,
 } from "./screen/devices.js";
 import { playDemo } from "./screen/demo.js";
-import { attempt, closeMenus, el, notice, on } from "../host/elements.js";
+import { attempt, closeMenus, el, keepInWindow, notice, on } from "../host/elements.js";
 import { heard } from "./frameupdates.js";
 import { isUnsafe, keep, KEEP_MS, keepAtOnce, keepDesk } from "../host/autosave.js";
 import "./files/board.js";
@@ -119,6 +119,11 @@ function listenToDevices() {
 
 function listenToWindow() {
   addEventListener("pointerdown", ({ target }) => closeMenus(target));
+  const sheets = new ResizeObserver((all) => all.forEach(({ target }) => keepInWindow(target)));
+  addEventListener("toggle", ({ target }) => {
+    const menu = target instanceof HTMLDetailsElement ? target : null, sheet = menu?.querySelector(".sheet");
+    if (sheet) sheets[menu?.open ? "observe" : "unobserve"](sheet);
+  }, { capture: true });
   document.querySelector(".refusal")?.addEventListener("click", clearRefusal);
   addEventListener("resize", showSized);
   addEventListener("fullscreenchange", showSized);

@@ -103,10 +103,10 @@ function rowOf({ it, depth, number, count }) {
   const key = JSON.stringify([it.part, it.before, it.role, it.step?.count]), item = linkRows.get(key) ?? newRow(count), [place, value, what] = item.querySelectorAll("span");
   linkRows.set(key, item);
   item.style.setProperty("--depth", `${Math.min(depth, DEEPEST)}`);
-  item.title = count === null ? "" : `at ${grouped(count)}`;
   place.textContent = count === null ? "·" : `${number}`;
   value.textContent = `${textOf(it)}${it.role ? ` (${it.role})` : ""}`;
   what.textContent = whatOf(it);
+  item.title = [value.textContent, what.textContent, count === null ? "" : `at ${grouped(count)}`].filter(Boolean).join(" · ");
   return item;
 }
 

@@ -4,7 +4,7 @@
 import { app } from "../../host/app.js";
 import { offer } from "../../host/commands.js";
 import { shadesOf } from "../../formats/dots.js";
-import { attempt, button, el, made, named } from "../../host/elements.js";
+import { attempt, button, closer, el, made, named } from "../../host/elements.js";
 import { readLine } from "../../formats/lines.js";
 import { refusing } from "./opening.js";
 import { readExported } from "./projectfile.js";
@@ -26,9 +26,7 @@ const board = { worker: /** @type {Helper | null} */ (null), all: /** @type {Han
  * @param {{ name: string, bytes: Bytes }[]} files */
 async function showBoard(files) {
   const said = made("p", `${many(Math.min(files.length, MOST), "hand-in")}${files.length > MOST ? ` of ${grouped(files.length)} files` : ""}. A model is run beside each other one, with the model's inputs: by its checkpoints the screen, the LEDs and the sent bytes are compared.`, "hint");
-  const table = document.createElement("table"), heads = made("tr", ""), close = button("×", () => el("board").close());
-  close.className = "close";
-  close.setAttribute("aria-label", "Close the board");
+  const table = document.createElement("table"), heads = made("tr", ""), close = closer("Close the board", () => el("board").close());
   heads.append(...HEADS.map((head) => made("th", head)));
   board.all = files.slice(0, MOST).map(({ name }) => handIn(name));
   table.append(heads, ...board.all.map(({ row }) => row));
@@ -42,7 +40,7 @@ async function showBoard(files) {
 /** @param {string} name
  * @returns {HandIn} */
 function handIn(name) {
-  const row = made("tr", ""), cells = HEADS.map(() => made("td", ""));
+  const row = made("tr", ""), cells = HEADS.map((title) => Object.assign(made("td", ""), { title }));
   row.append(...cells);
   cells[1].replaceChildren(named(name));
   return { name, exported: null, cells, row };

@@ -67,7 +67,7 @@ async function openProject(project, recording) {
   const { works, left } = await branchesOf(project), file = `${name}.orsr`;
   if (verdict.status) await openRecording(file, recording);
   else if (!(await resumeRun(project, recording, works))) return;
-  else verdicts.file.take(file, verdict), noteChecked(last(readRecording(recording).claims).count);
+  else verdicts.file.take(file, verdict), noteChecked(Infinity, readRecording(recording).claims.map(({ count }) => count));
   await openParts(project);
   notice(verdict.status ? `The recording of ${name} is false, so the project is open at its beginning.` : left);
 }

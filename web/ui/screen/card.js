@@ -1,6 +1,6 @@
 // @ts-check
 /* The card beside the screen, which has an answer, or the end of a game. */
-import { button, el, isNarrow, made } from "../../host/elements.js";
+import { closer, el, isNarrow, made } from "../../host/elements.js";
 
 // What is done when the card is closed.
 let whenClosed = () => {};
@@ -12,10 +12,7 @@ let whenClosed = () => {};
 export function showCard(title, parts, closed = () => {}) {
   if (closed !== whenClosed) whenClosed();
   whenClosed = closed;
-  const close = button("×", async () => closeCard()), heading = made("h2", title);
-  close.className = "close";
-  close.setAttribute("aria-label", "Close");
-  el("card").replaceChildren(heading, close, ...parts);
+  el("card").replaceChildren(made("h2", title), closer("Close", closeCard), ...parts);
   if (!el("card").hidden) return;
   el("card").hidden = false;
   if (!isNarrow()) el("card").scrollIntoView({ block: "nearest" });

@@ -2,7 +2,7 @@
 /* Lessons and examples: a chooser of sources, and the steps of a lesson beside its source, each with its task and what must be seen. */
 import { offer } from "../../host/commands.js";
 import { assembler, FIRST_SOURCE, setDesk, sourceEditor, sourceFile, sourcesNow } from "./desk.js";
-import { closeMenus, button, el, made, notice, paragraph, set } from "../../host/elements.js";
+import { button, closeMenus, closer, el, made, notice, paragraph, set } from "../../host/elements.js";
 import { unpacked } from "../../host/packed.js";
 import { nowCount } from "../../host/shown.js";
 import { showSource } from "./source.js";
@@ -82,9 +82,7 @@ export function showStep(lesson, at) {
   const { title, steps } = lesson, { task, see } = steps[at], said = paragraph("", "line note"), seen = paragraph("", "hint");
   const next = at + 1 < steps.length ? [button("Next step", async () => showStep(lesson, at + 1))] : [];
   const test = button("Check it", () => judge(steps[at].claim, said, () => (seen.textContent = see)));
-  const close = button("×", async () => (setDesk({ lesson: null }), set("lesson", { hidden: true })));
-  close.className = "close";
-  close.setAttribute("aria-label", "Close the lesson");
+  const close = closer("Close the lesson", () => (setDesk({ lesson: null }), set("lesson", { hidden: true })));
   said.hidden = true;
   el("lesson").hidden = false;
   el("lesson").replaceChildren(close, paragraph(`${title}, step ${at + 1} of ${steps.length}`, "hint"), paragraph(task), test, " ", ...next, said, seen);

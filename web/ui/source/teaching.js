@@ -3,7 +3,7 @@
  * source, and exported with its project. */
 import { commands } from "../../host/commands.js";
 import { desk, setDesk } from "./desk.js";
-import { button, closeMenus, el, made, notice, paragraph } from "../../host/elements.js";
+import { button, closeMenus, closer, el, made, notice, paragraph, set } from "../../host/elements.js";
 import { isClaim } from "../../formats/project.js";
 import { Refusal } from "../../host/requests.js";
 import { isPast, shownCount, shownState } from "../../host/shown.js";
@@ -27,9 +27,10 @@ function showForm(title, drafts) {
   const name = Object.assign(document.createElement("input"), { value: title, maxLength: 200, ariaLabel: "Title of the lesson", placeholder: "title of the lesson" });
   const steps = drafts.map(stepForm), more = button("One more step", () => showForm(name.value, [...steps.map(({ read }) => read()), EMPTY]));
   const done = button("Show the lesson", () => take(name.value, steps.map(({ read }) => read())));
+  const close = closer("Close the form", () => (desk.lesson ? commands.showLesson(desk.lesson) : set("lesson", { hidden: true })));
   done.className = "main";
   el("lesson").hidden = false;
-  el("lesson").replaceChildren(name, ...steps.flatMap(({ parts }) => parts), more, " ", done, paragraph("Export, in the list of what is saved, writes one file with the lesson.", "hint"));
+  el("lesson").replaceChildren(close, name, ...steps.flatMap(({ parts }) => parts), " ", more, " ", done, paragraph("Export, in the list of what is saved, writes one file with the lesson.", "hint"));
 }
 
 /** Returns the fields of a step, and how to read them.

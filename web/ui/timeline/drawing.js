@@ -187,6 +187,7 @@ function drawScreen({ pen, colour, y, high }) {
     pen.globalAlpha = 0.4 + 0.6 * share;
     pen.fillRect(from, y + high - 5 - share * (high - 8), width, share * (high - 8) + 4);
   }
+  pen.globalAlpha = 1;
   drawUnknown({ pen, colour, y, high });
 }
 

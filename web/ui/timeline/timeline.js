@@ -44,10 +44,11 @@ export function noteFrame({ state, on }) {
   freshen(!on);
 }
 
-/** Notes that the checkpoints up to a count were checked, and are true.
- * @param {number} last */
-export function noteChecked(last) {
-  for (const count of lanes.found.marks) if (count <= last) lanes.passed.set(count, "true");
+/** Notes that the checkpoints up to a count were checked, and are true: those that the lanes know, or `counts`.
+ * @param {number} last
+ * @param {Iterable<number>} counts */
+export function noteChecked(last, counts = lanes.found.marks) {
+  for (const count of counts) if (count <= last) lanes.passed.set(count, "true");
   drawLanes();
 }
 
