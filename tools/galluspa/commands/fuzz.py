@@ -211,8 +211,8 @@ def leave(finding: Finding, folder: Path) -> Path:
     for name, content in finding.files().items():
         write_file(own / name, content)
     try:
-        page = with_libraries("galluspa.output.pages").templates().get_template("finding.html.j2")
-        write_file(own / "difference.html", page.render(it=finding).encode())
+        page = with_libraries("galluspa.output.pages").generated("finding.html.j2", it=finding)
+        write_file(own / "difference.html", "".join(page).encode())
     except Refused as refusal:
         if isinstance(refusal, Failed):
             raise

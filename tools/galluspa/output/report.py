@@ -29,7 +29,7 @@ from galluspa.formats.states import Part
 from galluspa.formats.symbols import NONE, Symbols
 from galluspa.output.comparedscreens import ComparedScreens
 from galluspa.output.live import Live, Source
-from galluspa.output.pages import templates
+from galluspa.output.pages import generated
 from galluspa.output.pictures import Screens, screens
 from galluspa.process.cli import FAILED, Refused
 from galluspa.process.escapes import printable
@@ -220,11 +220,11 @@ class Report:
 
     def html(self, is_live: bool = False) -> Iterator[str]:
         """The page, piece by piece; one that is live can check its recording again, and run on from its checkpoints."""
-        found = templates()
-        found.globals["marks"] = self._marks
         false_at, false_part = self.answer.false_claim or (None, None)
         drawn = screens(self.program, self.recording) if self.recording else None
-        return found.get_template("report.html.j2").generate(
+        return generated(
+            "report.html.j2",
+            marks=self._marks,
             live=Live.of(self.name, self.text, self.symbols, [Source.of(path) for path in self.sources]) if is_live else None,
             name=self.name,
             size=len(self.text),

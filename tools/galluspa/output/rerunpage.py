@@ -8,7 +8,7 @@ from dataclasses import dataclass
 from itertools import islice
 
 from galluspa.output.comparedscreens import ComparedScreens
-from galluspa.output.pages import templates
+from galluspa.output.pages import generated
 from galluspa.output.pictures import small_png
 from galluspa.suites.approvals import Dots, masks_of, pbm_of, text_of
 from galluspa.suites.cases import Outcome
@@ -78,17 +78,14 @@ def page(name: str, outcomes: Sequence[Outcome], changes: list[Change] | None, s
     for change in changes or []:
         kinds[change.name].append(change.kind)
     ordered = sorted(outcomes, key=lambda it: it.is_ok)
-    return (
-        templates()
-        .get_template("rerun.html.j2")
-        .generate(
-            name=name,
-            headline=f"{len(outcomes) - wrong} of {len(outcomes)} as approved",
-            is_good=not wrong,
-            seconds=f"{sum(it.seconds for it in outcomes):.1f}",
-            changes=changes,
-            kinds=kinds,
-            outcomes=ordered,
-            shown=shown,
-        )
+    return generated(
+        "rerun.html.j2",
+        name=name,
+        headline=f"{len(outcomes) - wrong} of {len(outcomes)} as approved",
+        is_good=not wrong,
+        seconds=f"{sum(it.seconds for it in outcomes):.1f}",
+        changes=changes,
+        kinds=kinds,
+        outcomes=ordered,
+        shown=shown,
     )

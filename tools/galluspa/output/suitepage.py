@@ -6,7 +6,7 @@ from collections.abc import Iterator, Sequence
 from dataclasses import dataclass
 
 from galluspa.engine.program import ACCEPTED, Program
-from galluspa.output.pages import templates
+from galluspa.output.pages import generated
 from galluspa.output.pictures import display_alone, small_png
 from galluspa.process.children import in_parallel
 from galluspa.process.cli import Refused
@@ -32,17 +32,14 @@ def page(program: Program, name: str, outcomes: Sequence[Outcome], jobs: int, ch
     wrong = sum(not it.is_ok for it in outcomes)
     headline = f"{len(outcomes) - wrong} of {len(outcomes)} as expected"
     ordered = sorted(outcomes, key=lambda it: it.is_ok)
-    return (
-        templates()
-        .get_template("suite.html.j2")
-        .generate(
-            name=name,
-            headline=headline,
-            is_good=not wrong,
-            seconds=f"{sum(it.seconds for it in outcomes):.1f}",
-            changes=changes,
-            shown=_shown(program, ordered, jobs, changes or []),
-        )
+    return generated(
+        "suite.html.j2",
+        name=name,
+        headline=headline,
+        is_good=not wrong,
+        seconds=f"{sum(it.seconds for it in outcomes):.1f}",
+        changes=changes,
+        shown=_shown(program, ordered, jobs, changes or []),
     )
 
 
