@@ -7,7 +7,7 @@ from dataclasses import dataclass, field
 from pathlib import Path
 
 from galluspa.formats.recording import FLAGS, KINDS, MEMORY_BYTES, MOUSE, PAGE_BYTES, PLACES, Event, Recording
-from galluspa.formats.states import REGISTERS
+from galluspa.formats.states import REGISTERS, values
 from galluspa.process.cli import Refused, number, read_file
 
 # The last count, and how many inputs and checkpoints a session or a recording has at most.
@@ -68,19 +68,8 @@ def of_recording(name: str, read: Recording) -> Session:
     """Returns the session of a recording's initial state, inputs and counts. Raises Refused if no session can say that
     state."""
     first, *later = read.checkpoints
-    inexpressible = [
-        what
-        for what, value in (
-            ("stop", first.stop),
-            ("timer", first.timer),
-            ("switches", first.switches),
-            ("LEDs", first.leds),
-            ("mouse", first.mouse),
-            ("serial", first.serial),
-            ("keys", len(first.keys)),
-        )
-        if value
-    ]
+    numbers = values(first)
+    inexpressible = [name for name in ("stop", "timer", "switches", "LEDs", "mouse", "serial", "keys") if numbers[name]]
     if inexpressible:
         parts = ", ".join(inexpressible)
         raise Refused(f"{name}: its initial state has {parts} other than 0, which a session cannot say")
