@@ -5,6 +5,7 @@ import io
 import json
 from dataclasses import dataclass, field
 from pathlib import Path
+from typing import Any
 
 from galluspa.formats.recording import FLAGS, KINDS, MEMORY_BYTES, MOUSE, PAGE_BYTES, PLACES, Event, Recording
 from galluspa.formats.states import REGISTERS, values
@@ -64,6 +65,11 @@ def _rows(items: list[str], in_row: int) -> str:
     return "[\n    " + ",\n    ".join(rows) + "\n  ]" if items else "[]"
 
 
+def numbers_of(begun: object) -> dict[str, Any]:
+    """Returns the numbers with which a session, a state or a trial begins, besides R0 to R15."""
+    return {name: getattr(begun, name) for name in ("h", "pc", "flags", "rate", "phase")}
+
+
 def of_recording(name: str, read: Recording) -> Session:
     """Returns the session of a recording's initial state, inputs and counts. Raises Refused if no session can say that
     state."""
@@ -75,11 +81,7 @@ def of_recording(name: str, read: Recording) -> Session:
         raise Refused(f"{name}: its initial state has {parts} other than 0, which a session cannot say")
     return Session(
         registers=list(first.registers),
-        h=first.h,
-        pc=first.pc,
-        flags=first.flags,
-        rate=first.rate,
-        phase=first.phase,
+        **numbers_of(first),
         memory=read.memory(first, 0, MEMORY_BYTES),
         inputs=read.events,
         checkpoints=[checkpoint.count for checkpoint in later],
