@@ -7,7 +7,7 @@ from dataclasses import replace
 from galluspa.assembler.encoding import DEVICES, TIMER
 from galluspa.engine.library import Library
 from galluspa.engine.machine import Inputs, Machine
-from galluspa.engine.program import ACCEPTED, Program
+from galluspa.engine.program import Program
 from galluspa.formats import recording
 from galluspa.formats.instructions import address, is_store
 from galluspa.formats.language import LANGUAGE, LOOPS, STOPS, mistake
@@ -33,11 +33,8 @@ class Run:
 
     def __init__(self, library: Library, program: Program, session: Session) -> None:
         alone = replace(session, inputs=[], checkpoints=[])
-        answer = program.record(alone.text().encode())
-        if answer.status != ACCEPTED:
-            raise Refused(answer.line)
         self.library = library
-        self.first = library.claim(answer.output, 0)
+        self.first = library.claim(program.recorded(alone.text().encode()), 0)
         self.inputs = Inputs(session.inputs)
         self.settled = session.inputs[-1].count + 1 if session.inputs else 0
 

@@ -7,7 +7,7 @@ from collections.abc import Iterator
 from pathlib import Path
 
 from galluspa.assembler.mnemonics import source_of
-from galluspa.engine.program import REFUSED, Program
+from galluspa.engine.program import Program
 from galluspa.formats import recording
 from galluspa.formats.builds import tell_misfit
 from galluspa.formats.instructions import branches_to, instruction, moved
@@ -59,10 +59,7 @@ def recording_of(program: Program, path: Path) -> Recording:
     text = read_file(path)
     if text.startswith(b"ORSR"):
         return program.decoded(str(path), text)
-    answer = program.record(first_state_alone(text))
-    if answer.status == REFUSED:
-        raise Refused(f"{path}: neither a recording nor a session: {answer.line}")
-    return recording.read(answer.output)
+    return recording.read(program.recorded(first_state_alone(text), f"{path}: neither a recording nor a session: "))
 
 
 def first_state_alone(text: bytes) -> bytes:

@@ -6,7 +6,7 @@ from argparse import Namespace
 from pathlib import Path
 from textwrap import dedent
 
-from galluspa.engine.program import ACCEPTED, REFUSED, Program
+from galluspa.engine.program import REFUSED, Program
 from galluspa.process import paths
 from galluspa.process.cli import OK, Output, Parser, Refused, read_file, with_libraries, write_file
 from galluspa.process.escapes import printable
@@ -36,10 +36,7 @@ def page_of(asked: Namespace) -> Path:
     """Writes the page of a file, and returns where it is."""
     program, text = Program.find(asked.program, Limit(asked.limit)), read_file(asked.file)
     if not text.startswith(b"ORSR"):
-        answer = program.record(text)
-        if answer.status != ACCEPTED:
-            raise Refused(f"{asked.file}: neither a recording nor a session: {answer.line}")
-        text = answer.output
+        text = program.recorded(text, f"{asked.file}: neither a recording nor a session: ")
     answer = program.check(text)
     if answer.status == REFUSED:
         raise Refused(f"{asked.file}: {answer.line}")

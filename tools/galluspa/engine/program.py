@@ -103,6 +103,13 @@ class Program:
         """Returns the recording of a session, or the line that refuses it."""
         return self._ask("record", given=session)
 
+    def recorded(self, session: bytes, before: str = "") -> bytes:
+        """Returns the recording of a session. Raises Refused with the program's line, after a text, if there is none."""
+        answer = self.record(session)
+        if answer.status != ACCEPTED:
+            raise Refused(f"{before}{answer.line}")
+        return answer.output
+
     def answer(self, words: Sequence[str], given: bytes | BinaryIO) -> Answer:
         """Returns what the program answers to any arguments and any input."""
         try:

@@ -14,7 +14,7 @@ from galluspa.analysis.expressions import Moment
 from galluspa.analysis.film import picture
 from galluspa.engine.library import Library
 from galluspa.engine.machine import Inputs, Machine
-from galluspa.engine.program import ACCEPTED, Program
+from galluspa.engine.program import Program
 from galluspa.formats import recording
 from galluspa.formats.recording import DISPLAY_START, PAGE_BYTES, PLACES, STOPS as STOP_NAMES, Checkpoint, Recording
 from galluspa.formats.scripts import CONDITION, COUNT, MEMORY, Input, Look, Script, When
@@ -88,7 +88,7 @@ class Rerunner:
         refuse_mistakes(script, symbols)
         alone = replace(start, inputs=[], checkpoints=[])
         origin = alone.text()
-        machine = self.library.claim(self._recorded(alone), 0)
+        machine = self.library.claim(self.program.recorded(origin.encode()), 0)
         playing, ended = Playing(self.library, machine, symbols, script), None
         masks = [playing.mask(it) for it in script.events if isinstance(it, Look)]
         for event in script.events:
@@ -99,8 +99,13 @@ class Rerunner:
                 ended = Ended(told, event, why)
                 _look_last(playing, why)
                 break
-        session = replace(start, inputs=playing.inputs, checkpoints=[count for count, _ in playing.looks])
-        text = self._recorded(session) if playing.inputs or not ended else self._recorded_once(session)
+        session = replace(start, inputs=playing.inputs, checkpoints=[count for count, _ in playing.looks]).text()
+
+        def recorded() -> bytes:
+            return self.program.recorded(session.encode())
+
+        # Other scripts that end before their first input have the same session.
+        text = recorded() if playing.inputs or not ended else self.boots.shared(session, recorded, self.library.limit)
         read = recording.read(text)
         claims = read.checkpoints[1:]
         sent = b"".join(claim.output for claim in claims)
@@ -133,17 +138,6 @@ class Rerunner:
             raise found.again()
         playing.machine = machine.copy()
         playing.take(event, found)
-
-    def _recorded(self, session: Session) -> bytes:
-        """Returns the recording of a session."""
-        answer = self.program.record(session.text().encode())
-        if answer.status != ACCEPTED:
-            raise Refused(answer.line)
-        return answer.output
-
-    def _recorded_once(self, session: Session) -> bytes:
-        """Returns the recording of a session that other scripts have, too: it ended before their first input."""
-        return self.boots.shared(session.text(), lambda: self._recorded(session), self.library.limit)
 
     def _seen(
         self, read: Recording, claim: Checkpoint, look: Look, symbols: Symbols, script: Script, mask: Mask, by_names: Mask
