@@ -54,9 +54,8 @@ def parser() -> Parser:
     return options
 
 
-def recording_of(program: Program, path: Path) -> Recording:
-    """Returns the recording in a file, or that of the initial state of the session in it."""
-    text = read_file(path)
+def recording_of(program: Program, path: Path, text: bytes) -> Recording:
+    """Returns the recording in a file of these bytes, or that of the initial state of the session in it."""
     if text.startswith(b"ORSR"):
         return program.decoded(str(path), text)
     return recording.read(program.recorded(first_state_alone(text), f"{path}: neither a recording nor a session: "))
@@ -127,7 +126,7 @@ def listed(symbols: Symbols, words: Iterator[tuple[int, int]], asked: Namespace)
 def main(asked: Namespace) -> int:
     """Lists the words of a session or a recording."""
     symbols = symbols_for(asked.symbols, asked.file)
-    read = recording_of(Program.find(asked.program), asked.file)
+    read = recording_of(Program.find(asked.program), asked.file, read_file(asked.file))
     tell_misfit(symbols, read.first_memory)
     if asked.at >= len(read.checkpoints):
         raise Refused(f"{asked.file}: no checkpoint {asked.at}")

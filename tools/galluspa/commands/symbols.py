@@ -5,13 +5,12 @@ from argparse import Namespace
 from pathlib import Path
 from textwrap import dedent
 
-from galluspa.commands.listing import first_state_alone
+from galluspa.commands.listing import recording_of
 from galluspa.engine.library import Library
-from galluspa.engine.program import REFUSED, Program
+from galluspa.engine.program import Program
 from galluspa.engine.tracing import Run
-from galluspa.formats import recording
 from galluspa.formats.oberonmodules import symbols_of
-from galluspa.formats.recording import MEMORY_BYTES, PAGE_BYTES, PLACES
+from galluspa.formats.recording import MEMORY_BYTES
 from galluspa.formats.sessions import COUNTS
 from galluspa.formats.symbolfiles import written
 from galluspa.process.cli import OK, Output, Parser, Refused, read_file, whole_number, write_file
@@ -54,11 +53,7 @@ def memory_of(asked: Namespace) -> bytes:
     if asked.at is not None:
         raise Refused(f"--at {asked.at}: {asked.oberon} is not a recording")
     if text.lstrip().startswith(b"{"):
-        answer = Program.find(asked.program, Limit(asked.limit)).record(first_state_alone(text))
-        if answer.status == REFUSED:
-            raise Refused(f"{asked.oberon}: neither a recording nor a session: {answer.line}")
-        read = recording.read(answer.output)
-        return read.memory(read.checkpoints[0], 0, PLACES * PAGE_BYTES)
+        return recording_of(Program.find(asked.program, Limit(asked.limit)), asked.oberon, text).first_memory()
     if len(text) > MEMORY_BYTES:
         raise Refused(f"{asked.oberon}: an image has at most {MEMORY_BYTES:,} bytes")
     return text.ljust(MEMORY_BYTES, b"\0")
