@@ -14,8 +14,8 @@ from galluspa.analysis.explanation import NOT_SOUGHT, table
 from galluspa.analysis.lastwrites import last_write
 from galluspa.analysis.naming import named_row
 from galluspa.engine.library import Library
-from galluspa.engine.program import Program
-from galluspa.engine.tracing import WORKERS, Run
+from galluspa.engine.program import WORKERS, Program
+from galluspa.engine.tracing import Run
 from galluspa.formats.builds import tell_misfit
 from galluspa.formats.recording import Recording
 from galluspa.formats.symbolfiles import symbols_for

@@ -17,8 +17,8 @@ from galluspa.analysis.conditions import CONDITIONS, conditions_of
 from galluspa.analysis.search import Search
 from galluspa.engine.library import Library
 from galluspa.engine.machine import Machine
-from galluspa.engine.program import Program
-from galluspa.engine.tracing import WORKERS, Run
+from galluspa.engine.program import WORKERS, Program
+from galluspa.engine.tracing import Run
 from galluspa.formats.builds import tell_misfit
 from galluspa.formats.recording import STOPS
 from galluspa.formats.sessions import CHECKPOINTS, COUNTS

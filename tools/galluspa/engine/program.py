@@ -18,6 +18,9 @@ ACCEPTED = 0
 FALSE = 1
 REFUSED = 2
 WORDS_REFUSED = 4
+# The most workers of a check, and the default.
+MOST_WORKERS = 64
+WORKERS = min(os.cpu_count() or 1, MOST_WORKERS)
 
 _FALSE_LINE = re.compile(r"false checkpoint (\d+) at \d+ part (.+)")
 _REFUSED_LINE = re.compile(r"refused (\d+) \w+ at byte (\d+)")

@@ -4,7 +4,6 @@ A trace begins at the last checkpoint at or before a count that is known to be t
 segment.
 """
 
-import os
 from bisect import bisect_right
 from collections.abc import Callable, Iterable, Iterator, Sequence
 from copy import copy
@@ -13,7 +12,7 @@ from pathlib import Path
 
 from galluspa.engine.library import Library, ignore
 from galluspa.engine.machine import Inputs, Machine, Sent
-from galluspa.engine.program import REFUSED, Answer, Program
+from galluspa.engine.program import MOST_WORKERS, REFUSED, WORKERS, Answer, Program
 from galluspa.engine.recorded import RawStep, raw_steps
 from galluspa.formats import recording, states
 from galluspa.formats.instructions import address, is_store, mnemonic, writes
@@ -22,9 +21,6 @@ from galluspa.process.cli import Parser, Refused, progress, read_file, whole_num
 
 COMPARED_AT_ONCE = 4096
 OFTEN = 256
-# The default number of workers.
-MOST_WORKERS = 64
-WORKERS = min(os.cpu_count() or 1, MOST_WORKERS)
 
 
 @dataclass(frozen=True)

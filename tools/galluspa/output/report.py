@@ -2,7 +2,6 @@
 
 import base64
 import hashlib
-import os
 import shlex
 from collections.abc import Iterable, Iterator, Sequence
 from dataclasses import dataclass, field, replace
@@ -18,7 +17,7 @@ from galluspa.analysis.explanation import FalseClaim, explain_false
 from galluspa.analysis.film import picture
 from galluspa.analysis.naming import placed_lines, remark_on_part, with_remark
 from galluspa.engine.library import Library
-from galluspa.engine.program import ACCEPTED, REFUSED, Answer, Program
+from galluspa.engine.program import ACCEPTED, REFUSED, WORKERS, Answer, Program
 from galluspa.engine.tracing import Run
 from galluspa.formats import recording, states
 from galluspa.formats.faults import explain_fault
@@ -156,7 +155,7 @@ class Report:
         """The report on a text, after the program has judged it, or had no time to; the library, if it is found,
         says what is false. Names are shown beside the addresses that they stand for."""
         try:
-            answer = program.check(text, min(os.cpu_count() or 1, 64))
+            answer = program.check(text, WORKERS)
             read = None if answer.status == REFUSED else recording.read(text)
         except TimeIsUp as over:
             answer, read = Answer(str(over).encode(), FAILED), _lawful(program, text)
