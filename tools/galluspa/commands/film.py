@@ -24,8 +24,7 @@ from galluspa.process.cli import (
     progress,
     read_file,
     whole_number,
-    write_bytes,
-    write_file,
+    write_output,
 )
 from galluspa.process.timelimit import Limit, TimeIsUp
 
@@ -102,14 +101,6 @@ def filmed(film: Film, shots: Iterator[Shot], most: int, last: int) -> str:
     return ""
 
 
-def written(asked: Namespace, png: bytes) -> None:
-    """Writes a film or a picture to where it is to go."""
-    if asked.output:
-        write_file(asked.output, png)
-    else:
-        write_bytes(png)
-
-
 def main(asked: Namespace) -> int:
     """Makes the film, or the picture of one checkpoint."""
     limit = Limit(asked.limit)
@@ -118,7 +109,7 @@ def main(asked: Namespace) -> int:
     if asked.at is not None:
         if asked.at >= len(read.checkpoints):
             raise Refused(f"{asked.recording}: no checkpoint {asked.at}: the last is {len(read.checkpoints) - 1}")
-        written(asked, picture(program.screen(text, asked.at).output))
+        write_output(asked.output, picture(program.screen(text, asked.at).output))
         return OK
     last = read.checkpoints[-1].count
     if asked.every and asked.every > last:
@@ -130,7 +121,7 @@ def main(asked: Namespace) -> int:
     film = Film(asked.ms)
     cut = filmed(film, shots, asked.frames, last)
     progress("")
-    written(asked, film.png())
+    write_output(asked.output, film.png())
     if cut:
         complain(cut)
     return OK

@@ -1,6 +1,5 @@
 """Makes a symbol file of the list of loaded modules that Project Oberon (2013) keeps in memory."""
 
-import sys
 from argparse import Namespace
 from pathlib import Path
 from textwrap import dedent
@@ -13,7 +12,7 @@ from galluspa.formats.oberonmodules import symbols_of
 from galluspa.formats.recording import MEMORY_BYTES
 from galluspa.formats.sessions import COUNTS
 from galluspa.formats.symbolfiles import written
-from galluspa.process.cli import OK, Output, Parser, Refused, read_file, whole_number, write_file
+from galluspa.process.cli import OK, Output, Parser, Refused, read_file, whole_number, write_output
 from galluspa.process.timelimit import Limit
 
 
@@ -76,8 +75,5 @@ def main(asked: Namespace) -> int:
     except Refused as refusal:
         named = str(refusal) if str(asked.oberon) in str(refusal) else f"{asked.oberon}: {refusal}"
         raise type(refusal)(named) from refusal
-    if asked.output:
-        write_file(asked.output, text.encode())
-    else:
-        sys.stdout.write(text)
+    write_output(asked.output, text)
     return OK

@@ -215,8 +215,31 @@ def write_file(path: str | Path, content: bytes) -> None:
         else:
             _replace(path, target, content)
     except (OSError, ValueError) as error:
-        is_full = isinstance(error, OSError) and error.errno in NO_ROOM
-        raise (Failed if is_full else Refused)(f"{path}: {_why(error)}") from error
+        raise _unwritable(path, error) from error
+
+
+def write_output(output: Output | None, content: bytes | str) -> None:
+    """Writes what a tool makes into the file that an option names, or prints it."""
+    if output:
+        write_file(output, content.encode() if isinstance(content, str) else content)
+    elif isinstance(content, str):
+        sys.stdout.write(content)
+    else:
+        write_bytes(content)
+
+
+def make_folder(folder: Path) -> None:
+    """Makes a folder in which something is written, with those above it, unless it is there."""
+    try:
+        folder.mkdir(parents=True, exist_ok=True)
+    except OSError as error:
+        raise _unwritable(folder, error) from error
+
+
+def _unwritable(path: str | Path, error: OSError | ValueError) -> Refused:
+    """Returns what is raised if a path cannot be written."""
+    is_full = isinstance(error, OSError) and error.errno in NO_ROOM
+    return (Failed if is_full else Refused)(f"{path}: {_why(error)}")
 
 
 def _write_into(path: str | Path, content: bytes) -> None:

@@ -15,7 +15,7 @@ from pathlib import Path
 from galluspa.analysis.film import HEAD, HEIGHT, ROW, WIDTH, picture
 from galluspa.formats import states
 from galluspa.formats.scripts import LOOK_NAME
-from galluspa.process.cli import Refused, read_file, with_libraries, write_file
+from galluspa.process.cli import Refused, make_folder, read_file, with_libraries, write_file
 from galluspa.process.escapes import printable
 from galluspa.suites.reruns import Rerun, Seen
 
@@ -123,10 +123,7 @@ def _keep_inside(path: Path, top: Path) -> None:
 def write(folder: Path, top: Path, ran: Rerun, before: Approved | None) -> None:
     """Writes what a run shows as golden files, and removes the pictures of looks that it does not have any more."""
     _keep_inside(folder, top)
-    try:
-        folder.mkdir(exist_ok=True)
-    except OSError as error:
-        raise Refused(f"{folder}: {error.strerror}") from error
+    make_folder(folder)
     contents = {SENT: text_of(ran.sent).encode(), LOOKS: "".join(f"{line}\n" for it in ran.looks for line in it.lines).encode()}
     contents |= {f"{look.name}.png": look.screen for look in ran.looks}
     contents |= {f"{look.name}{MASK_SUFFIX}": picture(HEADER + look.drawn) for look in ran.looks if look.drawn}
