@@ -5,7 +5,7 @@ from collections.abc import Iterator, Sequence
 from dataclasses import dataclass
 from itertools import islice
 
-from galluspa.analysis.coveragetables import is_move, is_operation, move_of
+from galluspa.analysis.coveragetables import move_of
 from galluspa.assembler.mnemonics import source_of
 from galluspa.emulators.instructionrules import rules_of
 from galluspa.emulators.reduction import ended
@@ -14,7 +14,7 @@ from galluspa.emulators.trials import Trial
 from galluspa.engine.machine import Machine
 from galluspa.engine.tracing import Run, differing, lines
 from galluspa.formats import recording, states
-from galluspa.formats.instructions import CONDITIONS, OPERATIONS, instruction
+from galluspa.formats.instructions import CONDITIONS, OPERATIONS, instruction, is_move, is_operation
 from galluspa.formats.recording import Recording
 
 WORDS_SHOWN = 16
