@@ -115,7 +115,7 @@ class Rerunner:
         for claim, (_, look), (mask, procedures) in zip(claims, taken, masks):
             by_names = Mask()
             if procedures:
-                drawing = drawn.setdefault(procedures, Drawn(self.library, machine_at(read), procedures))
+                drawing = drawn.setdefault(procedures, Drawn(self.library, Machine.claimed(read, 0), procedures))
                 by_names = drawing.up_to(Inputs(read.events), claim.count)
             looks.append(self._seen(read, claim, look, symbols, script, mask, by_names))
         return Rerun(text, looks, sent, bool(playing.inputs), ended)
@@ -173,11 +173,6 @@ def refuse_mistakes(script: Script, symbols: Symbols) -> None:
         for at, asked in enumerate(event.memory if isinstance(event, Look) else ()):
             with _placed(script, event, f"{MEMORY}[{at}]"):
                 address_node(words_asked(asked)[0], symbols)
-
-
-def machine_at(read: Recording) -> Machine:
-    """Returns the machine that a recording begins with."""
-    return Machine.claimed(read, 0)
 
 
 def _look_last(playing: Playing, why: Never) -> None:
