@@ -25,7 +25,6 @@ from galluspa.formats.symbols import Symbols
 from galluspa.formats.recording import Event
 
 INDENT = "  "
-FOLLOWS = "It follows values, and not the branches that led to an instruction."
 
 
 def lines(values: Sequence[Value], symbols: Symbols, sources: Sources | None = None, depth: int = 0) -> Iterator[str]:
