@@ -72,7 +72,7 @@ def search_of(asked: Namespace, symbols: Symbols) -> Search:
         raise Refused("use --most with --all")
     limit = Limit(asked.limit)
     it = Run.checked(Library.find(asked.library, limit), Program.find(asked.program, limit), asked.recording)
-    tell_misfit(symbols, it.first_memory)
+    tell_misfit(symbols, it.read.first_memory)
     last = it.counts[-1]
     to = last if asked.to is None else asked.to
     if to > last:

@@ -165,7 +165,7 @@ def main(asked: Namespace) -> int:
     symbols = symbols_for(asked.symbols, asked.recording)
     conditions = conditions_of(asked.until, symbols) if asked.until else []
     run = run_of(asked, Limit(asked.limit))
-    tell_misfit(symbols, run.first_memory)
+    tell_misfit(symbols, run.read.first_memory)
     to = end_of(asked, run)
     if conditions:
         return search(asked, run, Search(run, conditions, asked.first, to, WORKERS), symbols)

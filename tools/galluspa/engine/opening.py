@@ -33,5 +33,5 @@ def opened(asked: Namespace, limit: Limit) -> Opened:
     """Returns the recording that the arguments of a tool name, with the names of their symbol file, or of the one beside it."""
     symbols, program = symbols_for(asked.symbols, asked.recording), Program.find(asked.program, limit)
     run = Run.checked(Library.find(asked.library, limit), program, asked.recording)
-    tell_misfit(symbols, run.first_memory)
+    tell_misfit(symbols, run.read.first_memory)
     return Opened(run, symbols, program)

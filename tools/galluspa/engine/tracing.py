@@ -135,10 +135,6 @@ class Run:
         """Returns the count of the first checkpoint that is known, or is to be taken, to be true: the run begins there."""
         return self.counts[self.true.start]
 
-    def first_memory(self) -> bytes:
-        """Returns the memory of the initial state, as the recording claims it."""
-        return self.claimed(0).memory()
-
     def with_library(self, library: Library) -> "Run":
         """Returns the same run, on another library."""
         run = copy(self)
