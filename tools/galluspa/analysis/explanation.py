@@ -9,14 +9,14 @@ from collections.abc import Iterable, Iterator, Sequence
 from dataclasses import dataclass, field, replace
 
 from galluspa.analysis.calls import Calls
-from galluspa.analysis.inspection import stack_line
+from galluspa.analysis.inspection import screen_of, stack_line
 from galluspa.analysis.lastwrites import LastWrite, last_write
 from galluspa.analysis.naming import named_row, placed_lines
 from galluspa.engine.machine import Machine, Sent
 from galluspa.engine.program import Program
 from galluspa.engine.tracing import Run, Step, WordChange, differing, with_progress
 from galluspa.formats import states
-from galluspa.formats.recording import DISPLAY_END, DISPLAY_START, PAGE_BYTES, Checkpoint, Recording, of_display
+from galluspa.formats.recording import DISPLAY_END, DISPLAY_START, PAGE_BYTES, Checkpoint, Recording
 from galluspa.formats.symbols import NONE, Symbols
 from galluspa.process.escapes import printable
 from galluspa.process.timelimit import TimeIsUp
@@ -232,12 +232,9 @@ def _differences(claimed: Checkpoint, defined: Checkpoint) -> Iterator[Differenc
 
 
 def _screens(program: Program, claimed: Machine, defined: Machine) -> Screens | None:
-    sides = [(machine.seen(), machine.memory()) for machine in (claimed, defined)]
-    if sides[0][1][DISPLAY_START:DISPLAY_END] == sides[1][1][DISPLAY_START:DISPLAY_END]:
+    if claimed.memory()[DISPLAY_START:DISPLAY_END] == defined.memory()[DISPLAY_START:DISPLAY_END]:
         return None
-    first = DISPLAY_START // PAGE_BYTES * PAGE_BYTES
-    program = replace(program, limit=None)
-    return Screens(*(program.screen(of_display(state, memory[first:]), 0).output for state, memory in sides))
+    return Screens(*(screen_of(machine, replace(program, limit=None)) for machine in (claimed, defined)))
 
 
 @dataclass(frozen=True)

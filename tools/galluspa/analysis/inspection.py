@@ -6,7 +6,7 @@
 import struct
 from collections.abc import Iterator, Mapping, Sequence
 
-from galluspa.analysis.film import picture
+from galluspa.analysis.film import HEAD, picture
 from galluspa.analysis.calls import Calls
 from galluspa.analysis.entries import Entries
 from galluspa.analysis.naming import with_remark
@@ -15,7 +15,7 @@ from galluspa.engine.machine import Machine
 from galluspa.engine.program import Program
 from galluspa.formats import states
 from galluspa.formats.instructions import instruction
-from galluspa.formats.recording import DISPLAY_START, MEMORY_BYTES, PAGE_BYTES, STOPS, WORDS, Checkpoint, of_display
+from galluspa.formats.recording import MEMORY_BYTES, STOPS, WORDS, Checkpoint
 from galluspa.formats.symbols import Symbols
 from galluspa.process.cli import Refused
 from galluspa.process.timelimit import TimeIsUp
@@ -25,7 +25,6 @@ LEAST_NAMED = 0x100
 STACK_WORDS = 16
 # The parts of a state besides the registers and the program counter, in the lines in which they are shown.
 DEVICES = (("timer", "rate", "phase"), ("switches", "LEDs", "mouse"), ("serial", "keys"))
-FIRST_PAGE = DISPLAY_START // PAGE_BYTES * PAGE_BYTES
 # The screen as text: COARSE dots side by side are one dot of a character, which has two by four.
 COARSE, ACROSS, DOWN = 8, 2, 4
 BRAILLE = 0x2800
@@ -131,7 +130,7 @@ def instruction_lines(machine: Machine, first: int, number: int, symbols: Symbol
 
 def screen_of(machine: Machine, program: Program) -> bytes:
     """Returns the machine's screen as the program draws it: a binary PBM."""
-    return program.screen(of_display(machine.seen(), machine.memory()[FIRST_PAGE:]), 0).output
+    return program.drawn(machine.seen(), machine.memory())
 
 
 def picture_of(pbm: bytes, name: str) -> bytes:
@@ -142,7 +141,7 @@ def picture_of(pbm: bytes, name: str) -> bytes:
 def screen_lines(pbm: bytes) -> Iterator[str]:
     """Yields a screen as text, with a dot of a character of Braille for each eight by eight dots of which one is set;
     lines at its end that are empty are left out."""
-    rows = pbm[len(b"P4\n1024 768\n") :]
+    rows = pbm[HEAD:]
     coarse = [
         [any(rows[128 * (COARSE * y + part) + x] for part in range(COARSE)) for x in range(128)] for y in range(768 // COARSE)
     ]

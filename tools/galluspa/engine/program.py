@@ -9,7 +9,7 @@ from pathlib import Path
 from typing import BinaryIO
 
 from galluspa.formats import recording
-from galluspa.formats.recording import Recording
+from galluspa.formats.recording import Checkpoint, Recording
 from galluspa.process import children, paths
 from galluspa.process.cli import FAILED, MOST, Failed, Refused
 from galluspa.process.timelimit import Limit
@@ -94,6 +94,11 @@ class Program:
     def screen(self, text: bytes, checkpoint: int) -> Answer:
         """Returns the picture of what a checkpoint claims, or the line that refuses the text."""
         return self._ask("screen", "--at", str(checkpoint), given=text)
+
+    def drawn(self, state: Checkpoint, memory: bytes) -> bytes:
+        """Returns the picture of a state with a memory, of which the bytes from DISPLAY_PAGES on are enough. Only these are read,
+        and not the whole recording that the state is of."""
+        return self.screen(recording.of_display(state, memory), 0).output
 
     def decoded(self, name: str, text: bytes) -> Recording:
         """Returns the recording of these bytes. Raises Refused with the program's line, after a name, if they are not valid."""

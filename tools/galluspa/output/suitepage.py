@@ -5,9 +5,9 @@ from collections import defaultdict
 from collections.abc import Iterator, Sequence
 from dataclasses import dataclass
 
-from galluspa.engine.program import ACCEPTED, Program
+from galluspa.engine.program import Program
 from galluspa.output.pages import generated
-from galluspa.output.pictures import display_alone, small_png
+from galluspa.output.pictures import small_png
 from galluspa.process.children import in_parallel
 from galluspa.process.cli import Refused
 from galluspa.suites.cases import Case, Outcome
@@ -59,7 +59,6 @@ def thumbnail(program: Program, case: Case) -> bytes:
     """Returns the last screen of a recording, small, as PNG; empty if the program shows none."""
     try:
         read = program.decoded(case.name, case.content())
-        drawn = program.screen(display_alone(read, read.checkpoints[-1]), 0)
+        return small_png(program.drawn(read.checkpoints[-1], read.display(read.checkpoints[-1])))
     except (Refused, MemoryError):
         return b""
-    return small_png(drawn.output) if drawn.status == ACCEPTED else b""

@@ -12,7 +12,7 @@ from dataclasses import dataclass, field
 from itertools import zip_longest
 from pathlib import Path
 
-from galluspa.analysis.film import HEAD, HEIGHT, ROW, WIDTH, picture
+from galluspa.analysis.film import HEAD, HEADER, HEIGHT, ROW, WIDTH, picture
 from galluspa.formats import states
 from galluspa.formats.scripts import LOOK_NAME
 from galluspa.process.cli import Refused, make_folder, read_file, with_libraries, write_file
@@ -24,7 +24,6 @@ SENT, LOOKS, MASK_SUFFIX = "sent.txt", "looks.txt", ".mask.png"
 # A byte sent has four characters at most; a picture of this size, even uncompressed, has fewer bytes.
 SENT_BYTES, LOOKS_BYTES, PICTURE_BYTES = 4 * (1 << 20) + 2, 1 << 24, 1 << 20
 SHOWN = 60
-HEADER = b"P4\n1024 768\n"
 
 
 @dataclass(frozen=True)

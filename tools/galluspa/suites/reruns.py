@@ -16,15 +16,13 @@ from galluspa.engine.library import Library
 from galluspa.engine.machine import Inputs, Machine
 from galluspa.engine.program import Program
 from galluspa.formats import recording
-from galluspa.formats.recording import DISPLAY_START, PAGE_BYTES, PLACES, STOPS as STOP_NAMES, Checkpoint, Recording
+from galluspa.formats.recording import STOPS as STOP_NAMES, WORDS, Checkpoint, Recording
 from galluspa.formats.scripts import CONDITION, COUNT, MEMORY, Input, Look, Script, When
 from galluspa.formats.sessions import COUNTS, Session
 from galluspa.formats.symbols import Symbols
 from galluspa.process.cli import Refused
 from galluspa.suites.boots import Boots
 from galluspa.suites.playing import Never, Playing
-
-FIRST_PAGE = DISPLAY_START // PAGE_BYTES * PAGE_BYTES
 
 
 @dataclass(frozen=True)
@@ -143,8 +141,7 @@ class Rerunner:
         self, read: Recording, claim: Checkpoint, look: Look, symbols: Symbols, script: Script, mask: Mask, by_names: Mask
     ) -> Seen:
         """Returns what is seen at a checkpoint of a recording."""
-        pages = read.memory(claim, FIRST_PAGE, PLACES * PAGE_BYTES)
-        screen = self.program.screen(recording.of_display(claim, pages), 0).output
+        screen = self.program.drawn(claim, read.display(claim))
         stop = f"stopped ({STOP_NAMES[claim.stop]})" if claim.stop else STOP_NAMES[0]
         memory = []
         for at, asked in enumerate(look.memory):
@@ -189,5 +186,5 @@ def _words(read: Recording, claim: Checkpoint, asked: str, symbols: Symbols) -> 
     if text == asked and (size := symbols.size(text.strip())):
         number = -(-size[0] // 4) if size[1] else min(-(-size[0] // 4), MEMORY_WORDS)
     first = address // 4
-    words = (read.word(claim, at) for at in range(first, min(first + number, PLACES * recording.WORDS_IN_PAGE)))
+    words = (read.word(claim, at) for at in range(first, min(first + number, WORDS)))
     return f"{asked}: {' '.join(f'{word:08X}' for word in words)}"
