@@ -345,7 +345,7 @@ class Report:
         if not self.false or not self.false.screens:
             return None
         it, captions = self.false.screens, ("claimed", "the machine", "what differs: red is set on the machine, blue is claimed")
-        return ComparedScreens.of(it.claimed, it.defined, it.box_from_below(), [(caption, caption) for caption in captions])
+        return ComparedScreens.of(it.claimed, it.defined, it.dots.box, [(caption, caption) for caption in captions])
 
     def _inputs(self) -> Iterator[str]:
         events = iter(self._read.events)

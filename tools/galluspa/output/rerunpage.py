@@ -7,10 +7,11 @@ from collections.abc import Iterator, Mapping, Sequence
 from dataclasses import dataclass
 from itertools import islice
 
+from galluspa.analysis.drawing import Dots
 from galluspa.output.comparedscreens import ComparedScreens
 from galluspa.output.pages import generated
 from galluspa.output.pictures import small_png
-from galluspa.suites.approvals import Dots, masks_of, pbm_of, text_of
+from galluspa.suites.approvals import masks_of, pbm_of, text_of
 from galluspa.suites.cases import Outcome
 from galluspa.suites.judging import Judged
 from galluspa.suites.reruns import Seen
@@ -31,13 +32,15 @@ class Screen:
     @staticmethod
     def differing(look: Seen, approved: bytes, dots: Dots, masks: Sequence[bytes]) -> "Screen":
         """Returns the screen of a look that differs from what was approved."""
-        name, box = look.name, (dots.left, dots.bottom, dots.right, dots.top)
+        name = look.name
         captions = (
             (f"{name}, approved", f"{name} as approved"),
             (f"{name} now, at count {look.count:,}", f"{name} now"),
             ("what differs: red is set now, blue was", f"what differs of {name}"),
         )
-        return Screen(name, look.count, compared=ComparedScreens.of(pbm_of(approved), pbm_of(look.screen), box, captions, masks))
+        return Screen(
+            name, look.count, compared=ComparedScreens.of(pbm_of(approved), pbm_of(look.screen), dots.box, captions, masks)
+        )
 
     @staticmethod
     def alike(look: Seen) -> "Screen":

@@ -12,7 +12,8 @@ from dataclasses import dataclass, field
 from itertools import zip_longest
 from pathlib import Path
 
-from galluspa.analysis.film import HEAD, HEADER, HEIGHT, ROW, WIDTH, picture
+from galluspa.analysis.drawing import Dots, dots_differing
+from galluspa.analysis.film import HEAD, HEADER, HEIGHT, WIDTH, picture
 from galluspa.formats import states
 from galluspa.formats.scripts import LOOK_NAME
 from galluspa.process.cli import Refused, make_folder, read_file, with_libraries, write_file
@@ -35,23 +36,6 @@ class Approved:
     screens: dict[str, bytes]
     sent: str
     masks: dict[str, bytes] = field(default_factory=dict)
-
-
-@dataclass(frozen=True)
-class Dots:
-    """Dots in which two screens differ: how many there are, the box around them, from the left and from below, and the first of
-    them from the top."""
-
-    number: int
-    left: int
-    bottom: int
-    right: int
-    top: int
-    first: tuple[int, int]
-
-    def __str__(self) -> str:
-        dots = f"{self.number:,} {'dot' if self.number == 1 else 'dots'}"
-        return f"{dots} from {self.left},{self.bottom} to {self.right},{self.top}"
 
 
 @dataclass(frozen=True)
@@ -228,22 +212,3 @@ def pbm_of(png: bytes) -> bytes:
     except (OSError, SyntaxError, ValueError, image.DecompressionBombError) as error:
         raise Refused(f"a golden picture is no PNG: {str(error)[:SHOWN]}") from error
     return HEADER + bytes(byte ^ 0xFF for byte in dots)
-
-
-def dots_differing(one: bytes, other: bytes, masks: Sequence[bytes] = ()) -> Dots | None:
-    """Returns in which dots two screens differ, but for those in bitmaps of what does not count; None if they differ in none."""
-    number, rows, columns, first = 0, list[int](), 0, (0, 0)
-    for row in range(HEIGHT):
-        at = HEAD + ROW * row
-        bits = int.from_bytes(one[at : at + ROW]) ^ int.from_bytes(other[at : at + ROW])
-        for mask in masks if bits else ():
-            bits &= ~int.from_bytes(mask[at - HEAD : at - HEAD + ROW])
-        if bits:
-            first = first if rows else (WIDTH - bits.bit_length(), HEIGHT - 1 - row)
-            number += bits.bit_count()
-            rows.append(HEIGHT - 1 - row)
-            columns |= bits
-    if not number:
-        return None
-    left, right = WIDTH - columns.bit_length(), WIDTH - 1 - ((columns & -columns).bit_length() - 1)
-    return Dots(number, left, min(rows), right, max(rows), first)
