@@ -25,7 +25,7 @@ class Trace:
             yield from self._heading(step)
         *inputs, shown = lines(step)
         yield from inputs
-        yield with_remark(shown, list(remarks_on(step, self._symbols)))
+        yield with_remark(shown, *remarks_on(step, self._symbols))
 
     def object(self, step: Step) -> dict[str, object]:
         """Returns the next instruction for machines."""

@@ -55,10 +55,9 @@ def register_lines(state: Checkpoint, symbols: Symbols) -> Iterator[str]:
     """R0 to R15, H, PC and the flags: in hexadecimal and as numbers with a sign, with the names of addresses."""
     for name, value in zip(states.REGISTERS, state.registers, strict=True):
         signed = value - (value >> 31 << 32)
-        held = held_name(name, value, symbols)
-        yield with_remark(f"{name:6}{value:08X}  {signed:>11}", [*filter(None, [held])])
+        yield with_remark(f"{name:6}{value:08X}  {signed:>11}", held_name(name, value, symbols))
     yield f"{'H':6}{state.h:08X}  {state.h - (state.h >> 31 << 32):>11}"
-    yield with_remark(f"{'PC':6}{state.pc:<8}  {4 * state.pc:>10X}H", [*filter(None, [symbols.text(4 * state.pc)])])
+    yield with_remark(f"{'PC':6}{state.pc:<8}  {4 * state.pc:>10X}H", symbols.text(4 * state.pc))
     yield f"flags {states.flags(state.flags)}"
 
 
@@ -77,7 +76,7 @@ def memory_lines(machine: Machine, address: int, number: int, symbols: Symbols) 
         content = struct.pack("<I", word)
         signs = "".join(chr(byte) if 0x20 <= byte < 0x7F else "." for byte in content)
         shown = f"{4 * at:06X}  {word:08X}  {word - (word >> 31 << 32):>11}  {content.hex(' ')}  {signs}"
-        yield with_remark(shown, [*filter(None, [symbols.text(4 * at)])])
+        yield with_remark(shown, symbols.text(4 * at))
 
 
 def entries_of(machine: Machine, symbols: Symbols) -> Entries:
@@ -124,8 +123,8 @@ def instruction_lines(machine: Machine, first: int, number: int, symbols: Symbol
     for at in range(first, min(first + number, WORDS)):
         word, mark = machine.words[at], "=>" if at == machine.state.pc and not machine.state.stop else "  "
         decoded = instruction(word, at)
-        remarks = filter(None, [symbols.text(4 * at), symbols.source(4 * at)])
-        yield with_remark(f"{mark}{at:>6}  {word:08X}  {decoded.mnemonic:20}  {decoded.meaning}", [*remarks])
+        shown = f"{mark}{at:>6}  {word:08X}  {decoded.mnemonic:20}  {decoded.meaning}"
+        yield with_remark(shown, symbols.text(4 * at), symbols.source(4 * at))
 
 
 def screen_of(machine: Machine, program: Program) -> bytes:

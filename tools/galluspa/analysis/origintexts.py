@@ -44,7 +44,7 @@ def line(it: Value, symbols: Symbols, sources: Sources | None = None) -> str:
     if it.step:
         word = it.step.word or 0
         shown += f"  at {it.step.before.count:,}  {it.step.before.pc}  {mnemonic(word)}"
-    return with_remark(shown + _ending(it), [*filter(None, [_place(it, symbols, sources)])])
+    return with_remark(shown + _ending(it), _place(it, symbols, sources))
 
 
 def _ending(it: Value) -> str:

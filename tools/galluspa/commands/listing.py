@@ -6,6 +6,7 @@ from argparse import Namespace
 from collections.abc import Iterator
 from pathlib import Path
 
+from galluspa.analysis.naming import with_remark
 from galluspa.assembler.mnemonics import source_of
 from galluspa.engine.program import Program
 from galluspa.formats import recording
@@ -84,7 +85,7 @@ def line_of(at: int, word: int, is_markdown: bool, remark: str = "") -> str:
     if is_markdown:
         named = f"; {_for_markdown(remark)}" if remark else ""
         return f"| {at} | `{word:08X}` | `{decoded.mnemonic}` | {decoded.meaning}{named} |"
-    return f"{at:6}  {word:08X}  {decoded.mnemonic:20}  {decoded.meaning}{f'  ; {remark}' if remark else ''}"
+    return with_remark(f"{at:6}  {word:08X}  {decoded.mnemonic:20}  {decoded.meaning}", remark)
 
 
 def _for_markdown(text: str) -> str:
@@ -117,7 +118,7 @@ def listed(symbols: Symbols, words: Iterator[tuple[int, int]], asked: Namespace)
         yield from (f"; {it}" for it in labels) if asked.source else labels
         remark = remark_on(symbols, at, word, before) if symbols else ""
         if asked.source:
-            yield f"        {source_of(word)}{f'  ; {remark}' if remark else ''}"
+            yield with_remark(f"        {source_of(word)}", remark)
         else:
             yield line_of(at, word, asked.markdown, remark)
         before = word

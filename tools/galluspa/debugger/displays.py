@@ -55,9 +55,9 @@ class Displays(Base):
             return
         name = _name(node, value, symbols)
         if kind:
-            yield with_remark(written(value, kind, 4, symbols).strip(), [name] * (bool(name) and kind != "a"))
+            yield with_remark(written(value, kind, 4, symbols).strip(), "" if kind == "a" else name)
         else:
-            yield with_remark(f"{value:08X}  {signed(value)}", [name] * bool(name))
+            yield with_remark(f"{value:08X}  {signed(value)}", name)
 
     def display(self, text: str) -> Iterator[str]:
         """Shows an expression at each pause."""
@@ -200,5 +200,5 @@ def written(value: int, kind: str, size: int, symbols: Symbols) -> str:
     if kind == "t":
         return f"{value:0{8 * size}b}"
     if kind == "a":
-        return with_remark(f"{value:08X}", [*filter(None, [symbols.text(value)])])
+        return with_remark(f"{value:08X}", symbols.text(value))
     return f"{value:>10}"

@@ -104,7 +104,7 @@ class Views(Displays, Listings):
             places = range(first, min(first + size * across, end), size)
             values = (int.from_bytes(memory[at : at + size], "little") for at in places)
             row = "  ".join(written(value, kind, size, self.debugger.symbols) for value in values)
-            yield with_remark(f"{first:06X}  {row}", [*filter(None, [self.debugger.symbols.text(first)])])
+            yield with_remark(f"{first:06X}  {row}", self.debugger.symbols.text(first))
 
     def _strings(self, address: int, units: int) -> Iterator[str]:
         memory = self.debugger.machine.memory()

@@ -320,7 +320,7 @@ class Report:
         decoded = instruction(word, checkpoint.pc)
         shown = f"{checkpoint.pc}  {word:08X}  {decoded.mnemonic}   {decoded.meaning}"
         at = 4 * checkpoint.pc
-        return with_remark(shown, [*filter(None, (self.symbols.text(at), self.symbols.source(at)))])
+        return with_remark(shown, self.symbols.text(at), self.symbols.source(at))
 
     def _marks(self, shown: Shown, part: Part) -> Markup:
         """The class of a part's cell."""
