@@ -11,7 +11,7 @@ from galluspa.analysis.expressiontexts import Parser, literal
 from galluspa.analysis.naming import with_remark
 from galluspa.debugger.base import Base
 from galluspa.formats.recording import MEMORY_BYTES
-from galluspa.formats.symbols import CODE, CONSTANT, DATA, Symbols, shown
+from galluspa.formats.symbols import CONSTANT, DATA, Symbols, shown
 from galluspa.process.cli import Refused
 
 # The formats of values, as gdb has them.
@@ -94,23 +94,16 @@ class Displays(Base):
             self.expressions.pop(number, None)
         yield from ()
 
-    def display_list(self, text: str) -> Iterator[str]:
+    def display_list(self) -> Iterator[str]:
         """Yields the expressions that are displayed."""
         for number, (kind, expression) in self.expressions.items():
             yield f"{number:>3}  {f'/{kind} ' if kind else ''}{shown(expression)}"
         if not self.expressions:
             yield "no expressions are displayed"
 
-    def functions(self, pattern: str) -> Iterator[str]:
-        """Yields the names of code, with their lines."""
-        yield from self._names(CODE, pattern)
-
-    def variables(self, pattern: str) -> Iterator[str]:
-        """Yields the names of data, with their words."""
-        yield from self._names(DATA, pattern)
-
-    def _names(self, kind: str, pattern: str) -> Iterator[str]:
-        """Yields the names in which a pattern is, whatever the case of its letters; a star in it stands for any text."""
+    def names_of(self, kind: str, pattern: str) -> Iterator[str]:
+        """Yields the names of code with their lines, or those of data with their words, in which a pattern is, whatever the case of
+        its letters; a star in it stands for any text."""
         if len(pattern) > MOST_PATTERN:
             raise Refused(f"a PATTERN has at most {MOST_PATTERN} characters")
         symbols, machine, wanted = self.debugger.symbols, self.debugger.machine, pattern.lower().split("*")
