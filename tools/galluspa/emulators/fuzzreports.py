@@ -8,7 +8,7 @@ from itertools import islice
 from galluspa.analysis.coveragetables import move_of
 from galluspa.assembler.mnemonics import source_of
 from galluspa.emulators.instructionrules import rules_of
-from galluspa.emulators.reduction import ended
+from galluspa.emulators.reduction import machine_of
 from galluspa.emulators.trialruns import TrialRunner, Parting
 from galluspa.emulators.trials import Trial
 from galluspa.engine.machine import Machine
@@ -119,7 +119,7 @@ def finding_of(runner: TrialRunner, trial: Trial, parting: Parting, word: int | 
     run = Run(runner.library, read, range(1))
     steps = list(run.steps(run.machine(0), trial.count))
     shown, places = [line for step in steps for line in lines(step)], {step.before.pc for step in steps}
-    before = runner.machine(ended(trial, trial.count - 1))
+    before = machine_of(runner.library, trial, trial.count - 1)
     return Finding(origin, trial, word, parting.names[0], shown, len(places), list(_rows(before, parting)), text)
 
 
