@@ -87,7 +87,6 @@ class Search:
 
 
 def parser() -> Parser:
-    """Returns the command line of this tool."""
     options = Parser(
         dedent(
             f"""\

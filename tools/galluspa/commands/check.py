@@ -11,7 +11,6 @@ from galluspa.process.escapes import printable
 
 
 def parser() -> Parser:
-    """Returns the command line of this tool."""
     options = Parser(
         dedent(
             """\

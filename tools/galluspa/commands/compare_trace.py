@@ -31,7 +31,6 @@ STANDARD_INPUT = "-"
 
 
 def parser() -> Parser:
-    """Returns the command line of this tool."""
     options = Parser(
         dedent(
             f"""\

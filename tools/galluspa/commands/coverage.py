@@ -22,7 +22,6 @@ from galluspa.suites.cases import Case, cases_of
 
 
 def parser() -> Parser:
-    """Returns the command line of this tool."""
     options = Parser(
         dedent(
             """\

@@ -32,7 +32,6 @@ BETWEEN = " \t\n"
 
 
 def parser() -> Parser:
-    """Returns the command line of this tool."""
     listed = "\n".join(f"  {f'{it.name} {it.arguments}'.rstrip():30}  {it.does}" for it in COMMANDS)
     options = Parser(
         dedent(

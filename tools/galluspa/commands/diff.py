@@ -26,7 +26,6 @@ from galluspa.process.timelimit import Limit, TimeIsUp
 
 
 def parser() -> Parser:
-    """Returns the command line of this tool."""
     options = Parser(
         dedent(
             """\

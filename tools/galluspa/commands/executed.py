@@ -28,7 +28,6 @@ from galluspa.suites.outcomes import add_jobs_option
 
 
 def parser() -> Parser:
-    """Returns the command line of this tool."""
     options = Parser(
         dedent(
             """\

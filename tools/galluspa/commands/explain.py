@@ -30,7 +30,6 @@ STEPS = 1000
 
 
 def parser() -> Parser:
-    """Returns the command line of this tool."""
     options = Parser(
         dedent(
             """\

@@ -32,7 +32,6 @@ FRAMES, MOST_FRAMES = 1000, 10_000
 
 
 def parser() -> Parser:
-    """Returns the command line of this tool."""
     options = Parser(
         dedent(
             f"""\

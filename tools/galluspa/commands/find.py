@@ -28,7 +28,6 @@ MOST = 1000
 
 
 def parser() -> Parser:
-    """The command line of this tool."""
     options = Parser(
         dedent(
             """\

@@ -24,7 +24,6 @@ LEAST_NAMED, MOST_LABELS = 0x100, 20
 
 
 def parser() -> Parser:
-    """Returns the command line of this tool."""
     options = Parser(
         "Lists instructions: the number of each word, the word, its mnemonic, and what it does.",
         "galluspa listing --words 8 --markdown examples/hello.json",

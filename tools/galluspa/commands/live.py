@@ -14,7 +14,6 @@ from galluspa.process.timelimit import Limit
 
 
 def parser() -> Parser:
-    """Returns the command line of this tool."""
     options = Parser(
         dedent(
             """\

@@ -34,7 +34,6 @@ from galluspa.process.timelimit import Limit
 
 
 def parser() -> Parser:
-    """The command line of this tool."""
     options = Parser(
         "Prints one self-contained page (HTML) of a recording: its verdict line, checkpoints, screens " "and inputs.",
         "galluspa report examples/face.orsr > face.html",

@@ -32,7 +32,6 @@ from galluspa.suites.storedsessions import APPROVED, AS_APPROVED, Shelf, Wanted
 
 
 def parser() -> Parser:
-    """Returns the command line of this tool."""
     options = Parser(
         dedent(
             """\

@@ -20,7 +20,6 @@ from galluspa.process.cli import Parser, Refused, complain, number, read_file, w
 
 
 def parser() -> Parser:
-    """Returns the command line of this tool."""
     options = Parser(
         dedent(
             """\

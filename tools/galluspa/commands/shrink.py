@@ -77,7 +77,6 @@ def size_of(trial: Trial) -> str:
 
 
 def parser() -> Parser:
-    """Returns the command line of this tool."""
     options = Parser(
         dedent(
             f"""\

@@ -25,7 +25,6 @@ from galluspa.process.timelimit import Limit, TimeIsUp
 
 
 def parser() -> Parser:
-    """Returns the command line of this tool."""
     options = Parser(
         dedent(
             """\

@@ -32,7 +32,6 @@ STEPS = 20
 
 
 def parser() -> Parser:
-    """Returns the command line of this tool."""
     options = Parser(
         dedent(
             """\

@@ -16,7 +16,6 @@ from galluspa.process.version import last_commit, of_commit
 
 
 def parser() -> Parser:
-    """Returns the command line of this tool."""
     options = Parser(
         dedent(
             """\
