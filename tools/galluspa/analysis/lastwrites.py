@@ -120,11 +120,9 @@ def _changed(run: Run, register: str, step: Step, first: int, jobs: int) -> Step
 
 
 def _becoming(register: str, value: int) -> Condition:
-    """Returns the condition that a register becomes a value."""
     return Condition(f"{register}={value}", (Raw(BECOMES, REGISTER_NUMBERS[register], value=value),))
 
 
 def _value(run: Run, register: str, count: int) -> int:
-    """Returns the value of a register at a count."""
     seen = run.machine(count).seen()
     return (*seen.registers, seen.h, seen.flags)[REGISTER_NUMBERS[register]]

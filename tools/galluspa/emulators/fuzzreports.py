@@ -106,7 +106,6 @@ def _source(read: Recording, trial: Trial) -> Iterator[str]:
 
 
 def _columns(rows: Sequence[Row]) -> Iterator[str]:
-    """Yields rows in columns."""
     widths = [max(len(row[column]) for row in rows) for column in range(3)]
     for row in rows:
         yield "  ".join([*(f"{cell:{width}}" for cell, width in zip(row, widths)), row[3]]).rstrip()

@@ -181,7 +181,6 @@ def _differing_byte(approved: str, sent: bytes) -> int | None:
 
 
 def _differing_lines(look: Seen, approved: Sequence[str]) -> list[str]:
-    """Returns the lines of a look that differ from the approved ones."""
     pairs = [(now, was) for now, was in zip_longest(look.lines, approved, fillvalue="nothing") if now != was]
     return [f"{_cut(now.strip())}, approved {_cut(was.strip().removeprefix(f'{look.name}: '))}" for now, was in pairs]
 

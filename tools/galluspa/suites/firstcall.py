@@ -206,7 +206,6 @@ def _effect(now: Side, before: Side, pair: Pair) -> str:
 
 
 def _call(call: Made, arguments: Registers) -> str:
-    """Returns a call with its arguments."""
     return f"{call.name}({', '.join(f'{name} = {value}' for name, value in arguments.items())})"
 
 
