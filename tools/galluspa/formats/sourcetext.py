@@ -2,13 +2,28 @@
 those below some folders are read."""
 
 import stat
+from argparse import Namespace
 from collections.abc import Sequence
 from pathlib import Path
 
 from galluspa.formats.symbols import Source, from_the_left
+from galluspa.process.cli import Parser
 
 # The most bytes of a source, and the most characters of a line that are shown.
 MOST_BYTES, SHOWN = 4 << 20, 120
+
+
+def add_directory_option(options: Parser, shown: str) -> None:
+    """Adds the option that names folders of sources, of which a tool shows something."""
+    options.add_argument(
+        "--directory",
+        metavar="FOLDER",
+        type=Path,
+        action="append",
+        default=[],
+        help=f"also show {shown} that are below this folder (default: those below the folder of the symbol file); may be used "
+        "several times",
+    )
 
 
 class Sources:
@@ -17,6 +32,11 @@ class Sources:
     def __init__(self, folders: Sequence[Path]) -> None:
         self._folders = folders
         self._read: dict[str, list[str]] = {}
+
+    @staticmethod
+    def of(asked: Namespace) -> "Sources":
+        """Returns the sources that the options of a tool let it show."""
+        return Sources([*asked.directory, (asked.symbols or asked.recording).parent])
 
     def lines(self, name: str) -> Sequence[str]:
         """Returns the lines of a source; none if it is not below a folder, or not a text of a proper size."""
