@@ -1,16 +1,16 @@
 """Reads the lines of sources that a symbol file names, to show them. A symbol file of a stranger may name any file, so only
 those below some folders are read."""
 
-import stat
 from argparse import Namespace
 from collections.abc import Sequence
 from pathlib import Path
 
+from galluspa.formats.builds import source_content
 from galluspa.formats.symbols import Source, from_the_left
 from galluspa.process.cli import Parser
 
-# The most bytes of a source, and the most characters of a line that are shown.
-MOST_BYTES, SHOWN = 4 << 20, 120
+# The most characters of a line that are shown.
+SHOWN = 120
 
 
 def add_directory_option(options: Parser, shown: str) -> None:
@@ -64,12 +64,7 @@ def _lines(folder: Path, name: str) -> list[str]:
     """Returns the lines of a file that is a text of a proper size, below a folder, wherever its links lead."""
     try:
         path = (folder / name).resolve(strict=True)
-        if not path.is_relative_to(folder.resolve()):
-            return []
-        about = path.stat()
-        if not stat.S_ISREG(about.st_mode) or about.st_size > MOST_BYTES:
-            return []
-        text = path.read_bytes()[:MOST_BYTES]
+        text = source_content(path) if path.is_relative_to(folder.resolve()) else None
     except (OSError, ValueError, RuntimeError):
         return []
-    return [line.expandtabs() for line in text.decode("utf-8", "replace").splitlines()]
+    return [line.expandtabs() for line in (text or b"").decode("utf-8", "replace").splitlines()]
