@@ -55,8 +55,7 @@ def parser() -> Parser:
         type=Output,
         help="write a symbol file, too: the labels, the constants, and the line of each instruction",
     )
-    options.add_program_option()
-    options.add_library_option()
+    options.add_machine_options()
     options.add_limit_option("look for an end of the run for this many seconds, if the source says `until`")
     return options
 

@@ -59,8 +59,7 @@ def parser() -> Parser:
     )
     options.add_symbols_option()
     options.add_limit_option("with --who, end after this many seconds")
-    options.add_program_option()
-    options.add_library_option()
+    options.add_machine_options()
     return options
 
 

@@ -77,8 +77,7 @@ def parser() -> Parser:
         "-o", "--output", metavar="FILE", type=Output, help="write the film or the picture into a file instead of standard output"
     )
     options.add_limit_option("end after this many seconds, with the frames that there are by then")
-    options.add_program_option()
-    options.add_library_option()
+    options.add_machine_options()
     return options
 
 

@@ -59,8 +59,7 @@ def parser() -> Parser:
     options.add_argument("--json", action="store_true", help="print one JSON object per line")
     add_workers_option(options)
     options.add_limit_option("end after this many seconds, and say how far that was")
-    options.add_program_option()
-    options.add_library_option()
+    options.add_machine_options()
     return options
 
 

@@ -95,8 +95,7 @@ def parser() -> Parser:
     options.add_limit_option("end the run of a session after this many seconds; it is then not as approved")
     add_output_options(options, "each session with the screens that were approved, those of now, and what differs")
     options.add_symbols_option()
-    options.add_program_option()
-    options.add_library_option()
+    options.add_machine_options()
     return options
 
 

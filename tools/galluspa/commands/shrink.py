@@ -97,8 +97,7 @@ def parser() -> Parser:
     )
     add_seconds_option(options, "--answer-seconds", ANSWER_SECONDS)
     options.add_limit_option("end after this many seconds with the smallest session until then")
-    options.add_program_option()
-    options.add_library_option()
+    options.add_machine_options()
     return options
 
 

@@ -38,8 +38,7 @@ def parser() -> Parser:
     )
     options.add_argument("-o", "--output", metavar="FILE", type=Output, help="write the symbol file, and do not print it")
     options.add_limit_option("end after this many seconds")
-    options.add_program_option()
-    options.add_library_option()
+    options.add_machine_options()
     return options
 
 

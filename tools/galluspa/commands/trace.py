@@ -89,8 +89,7 @@ def parser() -> Parser:
         help=f"write a record of {RECORD.size} bytes for each instruction, for other programs; docs/debugging.md " "has its fields",
     )
     options.add_limit_option("end after this many seconds, and say how far that was")
-    options.add_program_option()
-    options.add_library_option()
+    options.add_machine_options()
     return options
 
 

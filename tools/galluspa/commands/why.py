@@ -58,8 +58,7 @@ def parser() -> Parser:
     options.add_symbols_option()
     add_workers_option(options)
     options.add_limit_option("end after this many seconds")
-    options.add_program_option()
-    options.add_library_option()
+    options.add_machine_options()
     return options
 
 

@@ -92,6 +92,11 @@ class Parser(argparse.ArgumentParser):
             "for libraries)",
         )
 
+    def add_machine_options(self) -> None:
+        """Adds the options that name the program and the library."""
+        self.add_program_option()
+        self.add_library_option()
+
     def add_symbols_option(self) -> None:
         """Adds the option that names the file that gives names to addresses."""
         self.add_argument(
