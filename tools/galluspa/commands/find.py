@@ -14,6 +14,7 @@ from textwrap import dedent
 from galluspa.analysis.conditions import CONDITIONS, conditions_of
 from galluspa.analysis.search import Hit, Search
 from galluspa.engine.library import Library
+from galluspa.engine.opening import count_asked
 from galluspa.engine.program import Program
 from galluspa.engine.tracing import Run, add_workers_option
 from galluspa.formats.builds import tell_misfit
@@ -72,12 +73,8 @@ def search_of(asked: Namespace, symbols: Symbols) -> Search:
     it = Run.checked(Library.find(asked.library, limit), Program.find(asked.program, limit), asked.recording)
     tell_misfit(symbols, it.read.first_memory)
     last = it.counts[-1]
-    to = last if asked.to is None else asked.to
-    if to > last:
-        raise Refused(f"--to {to} is after the last checkpoint, which is at {last}")
-    if asked.first > last:
-        raise Refused(f"--from {asked.first} is after the last checkpoint, which is at {last}")
-    if asked.first == last:
+    to = count_asked("--to", asked.to, last)
+    if count_asked("--from", asked.first, last) == last:
         raise Refused(f"--from {asked.first} is at the last checkpoint: give an earlier count")
     if asked.first >= to:
         raise Refused(f"--to {to} must come after --from {asked.first}")

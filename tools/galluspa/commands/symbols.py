@@ -6,6 +6,7 @@ from textwrap import dedent
 
 from galluspa.commands.listing import recording_of
 from galluspa.engine.library import Library
+from galluspa.engine.opening import count_asked
 from galluspa.engine.program import Program
 from galluspa.engine.tracing import Run
 from galluspa.formats.oberonmodules import symbols_of
@@ -60,10 +61,7 @@ def _recorded(asked: Namespace) -> bytes:
     """Returns the memory of the machine in a recording's run."""
     limit = Limit(asked.limit)
     run = Run.checked(Library.find(asked.library, limit), Program.find(asked.program, limit), asked.oberon)
-    at = run.counts[-1] if asked.at is None else asked.at
-    if at > run.counts[-1]:
-        raise Refused(f"--at {at} is after the last checkpoint, which is at {run.counts[-1]}")
-    return run.machine(at).memory()
+    return run.machine(count_asked("--at", asked.at, run.counts[-1])).memory()
 
 
 def main(asked: Namespace) -> int:

@@ -23,10 +23,14 @@ class Opened:
 
     def count(self, asked: int | None) -> int:
         """Returns the count of the option --at, or that of the last checkpoint if there is none. Raises Refused for a later one."""
-        last = self.run.counts[-1]
-        if asked is not None and asked > last:
-            raise Refused(f"--at {asked} is after the last checkpoint, which is at {last}")
-        return last if asked is None else asked
+        return count_asked("--at", asked, self.run.counts[-1])
+
+
+def count_asked(option: str, count: int | None, last: int) -> int:
+    """Returns the count of an option, or that of the last checkpoint if there is none. Raises Refused for a later one."""
+    if count is not None and count > last:
+        raise Refused(f"{option} {count} is after the last checkpoint, which is at {last}")
+    return last if count is None else count
 
 
 def opened(asked: Namespace, limit: Limit) -> Opened:

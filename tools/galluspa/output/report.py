@@ -17,6 +17,7 @@ from galluspa.analysis.explanation import FalseClaim, explain_false
 from galluspa.analysis.film import picture
 from galluspa.analysis.naming import placed_lines, remark_on_part, with_remark
 from galluspa.engine.library import Library
+from galluspa.engine.opening import count_asked
 from galluspa.engine.program import ACCEPTED, REFUSED, WORKERS, Answer, Program
 from galluspa.engine.tracing import Run
 from galluspa.formats import recording, states
@@ -201,12 +202,10 @@ class Report:
             return None
         if self.recording is None:
             raise Refused(f"--at {self.at}: {self.answer.line}")
-        last = self._read.checkpoints[-1].count
-        if self.at > last:
-            raise Refused(f"--at {self.at} is after the last checkpoint, which is at {last}")
+        at = count_asked("--at", self.at, self._read.checkpoints[-1].count)
         run = Run.of_answer(Library.find(self.library, self.program.limit), self._read, self.answer)
         try:
-            return Moment.of(run, self.program, self.at, self.symbols)
+            return Moment.of(run, self.program, at, self.symbols)
         except TimeIsUp:
             return None
 
