@@ -95,7 +95,10 @@ def last_writer(run: Run, register: str, first: int, to: int, jobs: int = 1) -> 
 def last_change(run: Run, register: str, first: int, to: int, jobs: int = 1) -> RawStep | None:
     """Returns the last instruction in the counts from `first` to `to` that changes a register, H or the flags: it is the last
     one by which the register becomes what it is at `to`."""
-    hit = Search(run, [_becoming(register, _value(run, register, to))], first, to, jobs).last() if first < to else None
+    if first >= to:
+        return None
+    becomes = Raw(BECOMES, REGISTER_NUMBERS[register], value=_value(run, register, to))
+    hit = Search(run, [Condition(f"{register} changes", (becomes,))], first, to, jobs).last()
     return hit.raw if hit else None
 
 
@@ -117,10 +120,6 @@ def _changed(run: Run, register: str, step: Step, first: int, jobs: int) -> Step
     """Returns the last instruction from a count on that changed a register, up to one that wrote it."""
     raw = last_change(run, register, first, step.before.count + 1, jobs)
     return step_of(raw) if raw else None
-
-
-def _becoming(register: str, value: int) -> Condition:
-    return Condition(f"{register}={value}", (Raw(BECOMES, REGISTER_NUMBERS[register], value=value),))
 
 
 def _value(run: Run, register: str, count: int) -> int:

@@ -167,19 +167,16 @@ def _is_address(node: Node) -> bool:
 
 
 def string_line(memory: bytes, address: int) -> str:
-    """Returns the string at an address."""
-    return f'{address:06X}  "{shown_bytes(string_at(memory, address))}"'
+    """Returns the string at an address: of other bytes than printable ASCII characters, a backslash and two digits."""
+    content = string_at(memory, address)
+    shown_bytes = (chr(byte) if 0x20 <= byte < 0x7F and byte not in b'\\"' else f"\\{byte:02x}" for byte in content)
+    return f'{address:06X}  "{"".join(shown_bytes)}"'
 
 
 def string_at(memory: bytes, address: int) -> bytes:
     """Returns the bytes of memory from an address on, before the next one that is 0, but not more than are shown."""
     end = memory.find(b"\0", address)
     return memory[address : min(address + STRING, end if end >= 0 else MEMORY_BYTES)]
-
-
-def shown_bytes(content: bytes) -> str:
-    """Returns bytes as printable ASCII characters; any other byte as a backslash and two digits."""
-    return "".join(chr(byte) if 0x20 <= byte < 0x7F and byte not in b'\\"' else f"\\{byte:02x}" for byte in content)
 
 
 def written(value: int, kind: str, size: int, symbols: Symbols) -> str:

@@ -55,7 +55,9 @@ class Step:
     def stored_at(self) -> int | None:
         """Returns the address of the word that the instruction stores to, whether or not it changes; None if it stores
         nothing."""
-        at = None if self.after.stop else _stored_to(self.word, self.before)
+        if self.word is None or self.after.stop or not is_store(self.word):
+            return None
+        at = address(self.word, self.before.registers)
         return None if at is None else at & ~3
 
     @property
@@ -87,11 +89,6 @@ def differing(old: bytes, new: bytes) -> Iterator[WordChange]:
         for at, (was, now) in enumerate(zip(memoryview(one).cast("I"), memoryview(other).cast("I"), strict=True)):
             if was != now:
                 yield WordChange(block + 4 * at, was, now)
-
-
-def _stored_to(word: int | None, before: Checkpoint) -> int | None:
-    """Returns the byte address that an instruction stores to; None if it stores nothing."""
-    return address(word, before.registers) if word is not None and is_store(word) else None
 
 
 class Run:

@@ -94,17 +94,13 @@ def page(name: str, text: bytes, line: str) -> Iterator[str]:
 
 
 def _packed(text: bytes) -> str:
-    """Bytes as the page unpacks them: compressed, as base64."""
-    return base64.b64encode(_compressed(text)).decode()
-
-
-def _compressed(text: bytes) -> bytes:
-    """Bytes in the format of gzip, made piece by piece, so that a signal is handled between them."""
+    """Bytes as the page unpacks them: in the format of gzip, made piece by piece, so that a signal is handled between them, as
+    base64."""
     out = io.BytesIO()
     with gzip.GzipFile(fileobj=out, mode="wb", mtime=0) as packed:
         for at in range(0, len(text), AT_ONCE):
             packed.write(text[at : at + AT_ONCE])
-    return out.getvalue()
+    return base64.b64encode(out.getvalue()).decode()
 
 
 def _part(page: str, pattern: str) -> str:

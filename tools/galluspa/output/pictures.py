@@ -55,18 +55,14 @@ def screens(program: Program, read: Recording) -> Screens:
 
     with contextlib.suppress(TimeIsUp):
         for at in range(0, len(numbers), AT_ONCE):
-            is_full = _size(made.full) < FULL_BYTES
-            if not is_full and _size(made.small) >= SMALL_BYTES:
+            is_full = sum(map(len, made.full.values())) < FULL_BYTES
+            if not is_full and sum(map(len, made.small.values())) >= SMALL_BYTES:
                 break
             encoded, pictures = (png, made.full) if is_full else (small_png, made.small)
             some = numbers[at : at + AT_ONCE]
             for number, pbm in zip(some, in_parallel(AT_A_TIME, drawn, some), strict=True):
                 pictures[number] = encoded(pbm)
     return made
-
-
-def _size(pictures: dict[int, bytes]) -> int:
-    return sum(map(len, pictures.values()))
 
 
 def png(pbm: bytes) -> bytes:
