@@ -1,5 +1,6 @@
 """Opens the live machine in a browser, perhaps with a recording or a session."""
 
+import shutil
 import tempfile
 import webbrowser
 from argparse import Namespace
@@ -40,9 +41,16 @@ def page_of(asked: Namespace) -> Path:
     if answer.status == REFUSED:
         raise Refused(f"{asked.file}: {answer.line}")
     content = "".join(with_libraries("galluspa.output.live").page(printable(asked.file.name), text, answer.line)).encode()
-    page = Path(asked.output or Path(tempfile.mkdtemp(prefix="galluspa-"), f"{asked.file.stem}.html"))
-    write_file(page, content)
-    return page.resolve()
+    if asked.output:
+        write_file(asked.output, content)
+        return Path(asked.output).resolve()
+    folder = Path(tempfile.mkdtemp(prefix="galluspa-"))
+    try:
+        write_file(folder / f"{asked.file.stem}.html", content)
+    except BaseException:
+        shutil.rmtree(folder, ignore_errors=True)
+        raise
+    return folder.resolve() / f"{asked.file.stem}.html"
 
 
 def main(asked: Namespace) -> int:

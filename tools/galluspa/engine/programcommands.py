@@ -43,7 +43,7 @@ def main(asked: Namespace, command: str, options: Sequence[str] = ()) -> int:
 
 def files_of(files: Sequence[Path], command: str) -> Sequence[Path]:
     """Returns the files that are named, or standard input if none is; a terminal holds neither recording nor session."""
-    if not files and sys.stdin is not None and sys.stdin.isatty():
+    if not files and sys.stdin.isatty():
         raise Refused(f"name a file (see galluspa {command} --help)")
     return files or [STANDARD_INPUT]
 

@@ -331,7 +331,7 @@ def run(main: Callable[[Sequence[str]], int]) -> NoReturn:
         status = FAILED
     except OSError as error:
         complain(f"{error.filename or 'standard output'}: {_why(error)}")
-        status = FAILED
+        status = REFUSED if error.errno == errno.ENAMETOOLONG else FAILED
     sys.exit(_flushed(status))
 
 
@@ -349,6 +349,7 @@ def _open_streams() -> None:
     while (place := os.open(os.devnull, os.O_RDWR)) <= 2:
         pass
     os.close(place)
+    sys.stdin = sys.stdin or open(0, closefd=False)
     sys.stderr = sys.stderr or open(2, "w", closefd=False)
     sys.stdout = sys.stdout or open(1, "w", closefd=False)
     sys.stdout, sys.stderr = _whole(sys.stdout), _whole(sys.stderr)

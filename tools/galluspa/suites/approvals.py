@@ -67,7 +67,7 @@ def text_of(sent: bytes) -> str:
 def read(folder: Path, top: Path) -> Approved | None:
     """Returns what is approved in a folder; None if there is no such folder. Raises Refused if it leads out of the suite, or if a
     file in it is none that `write` writes."""
-    if not folder.exists() and not folder.is_symlink():
+    if not os.path.lexists(folder):
         return None
     lines = _read(folder / LOOKS, top, LOOKS_BYTES).decode("utf-8", "replace").splitlines()
     looks: dict[str, list[str]] = {}
