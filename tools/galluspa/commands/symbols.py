@@ -47,7 +47,7 @@ def memory_of(asked: Namespace) -> bytes:
     """Returns all bytes of the memory that the options name."""
     text = read_file(asked.oberon)
     if text.startswith(b"ORSR"):
-        return _recorded(asked)
+        return _recorded(asked, text)
     if asked.at is not None:
         raise Refused(f"--at {asked.at}: {asked.oberon} is not a recording")
     if text.lstrip().startswith(b"{"):
@@ -57,10 +57,10 @@ def memory_of(asked: Namespace) -> bytes:
     return text.ljust(MEMORY_BYTES, b"\0")
 
 
-def _recorded(asked: Namespace) -> bytes:
+def _recorded(asked: Namespace, text: bytes) -> bytes:
     """Returns the memory of the machine in a recording's run."""
     limit = Limit(asked.limit)
-    run = Run.checked(Library.find(asked.library, limit), Program.find(asked.program, limit), asked.oberon)
+    run = Run.checked(Library.find(asked.library, limit), Program.find(asked.program, limit), asked.oberon, text)
     return run.machine(count_asked("--at", asked.at, run.counts[-1])).memory()
 
 

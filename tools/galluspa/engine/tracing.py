@@ -116,10 +116,10 @@ class Run:
         return Run(library, read, range(answer.false_claim[0] if answer.false_claim else len(read.checkpoints)))
 
     @staticmethod
-    def checked(library: Library, program: Program, path: Path) -> "Run":
-        """Returns the run of the recording in a file, from those of its checkpoints that a check by all processors
-        finds true."""
-        text = read_file(path)
+    def checked(library: Library, program: Program, path: Path, read: bytes | None = None) -> "Run":
+        """Returns the run of the recording in a file, which may be read already, from those of its checkpoints that a check by all
+        processors finds true."""
+        text = read_file(path) if read is None else read
         progress("checking the recording")
         answer = program.check(text, WORKERS)
         progress("")
