@@ -40,7 +40,7 @@ from galluspa.process.cli import (
     with_libraries,
     write_file,
 )
-from galluspa.process.escapes import for_tap
+from galluspa.process.escapes import for_tap, printable
 from galluspa.process.temporary import temporary_folder
 from galluspa.process.timelimit import Limit
 
@@ -223,7 +223,8 @@ def text(result: Result) -> Iterator[str]:
     """Yields what was found, and what was exercised."""
     for finding, folder in result.found:
         yield from finding.shown()
-        yield from ("", f"{folder} has it: {', '.join(sorted(it.name for it in folder.iterdir()))}", "")
+        there = ", ".join(sorted(it.name for it in folder.iterdir()))
+        yield from ("", printable(f"{folder} has it: {there}"), "")
     yield result.summary
     if not result.found:
         measured = f"exercised, as {result.tally.measured:,} of these sessions were measured:"
