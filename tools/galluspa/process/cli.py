@@ -343,8 +343,8 @@ def _end(number: int, frame: FrameType | None) -> None:
 
 
 def _open_streams() -> None:
-    """Makes sure that no opened file takes the place of a closed standard stream, and that what can't be
-    written in the encoding of a stream is escaped."""
+    """Makes sure that no opened file takes the place of a closed standard stream, and that what can't be written, or read, in the
+    encoding of a stream is escaped."""
     is_closed = sys.stdout is None
     while (place := os.open(os.devnull, os.O_RDWR)) <= 2:
         pass
@@ -355,6 +355,8 @@ def _open_streams() -> None:
     sys.stdout, sys.stderr = _whole(sys.stdout), _whole(sys.stderr)
     for stream in (sys.stdout, sys.stderr):
         escape_unwritable(stream)
+    if isinstance(sys.stdin, io.TextIOWrapper):
+        sys.stdin.reconfigure(errors="surrogateescape")
     if is_closed:
         raise Failed(f"standard output: {os.strerror(errno.EBADF)}")
 
