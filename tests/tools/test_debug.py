@@ -285,6 +285,8 @@ class CommandsTest(FramesTest):
         self.assertEqual(len(ran.errors.splitlines()), 3)
         self.assertIn(b"00000007  7\n", ran.output)
         self.assertNotIn(b"print 8", ran.output)
+        # A write that failed is not forgotten at a later mistake.
+        self.assertEqual(run([GALLUSPA, "debug", self.recording], b"screen /dev/full\nfrob\n").status, 3)
 
     def test_commands_that_are_not_utf_8_are_refused(self) -> None:
         """Also where Python would not read them, as in most languages' settings."""

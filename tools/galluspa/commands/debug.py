@@ -212,7 +212,7 @@ def follow(shell: Shell, lines: Iterator[str]) -> int:
             break
         except Refused as refusal:
             complain(str(refusal))
-            status = FAILED if isinstance(refusal, Failed) else REFUSED
+            status = max(status, FAILED if isinstance(refusal, Failed) else REFUSED)
     return status
 
 
