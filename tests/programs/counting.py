@@ -36,6 +36,15 @@ def counted_in_c(counter: Path, path: Path, ranges: list[range]) -> Counted:
     return Counted(Profile(visits, departures), ran.stdout[2 * NUMBERS :])
 
 
+def added(one: Profile, other: Profile) -> Profile:
+    """Returns the profile of a run and of the one that follows it."""
+    both = Profile(one.visits[:], one.departures[:])
+    for at in other.visited():
+        both.visits[at] += other.visits[at]
+        both.departures[at] += other.departures[at]
+    return both
+
+
 def counted_by_library(library: Library, machine: Machine, inputs: Inputs, ranges: list[range], to: int) -> Counted:
     """Returns what the library counts and records, in a run up to the begin of the last range, and one from there on. A machine
     that is recorded has to come to where it is advanced."""
@@ -45,7 +54,7 @@ def counted_by_library(library: Library, machine: Machine, inputs: Inputs, range
     library.advance(machine, inputs, last.start)
     other = library.profile(machine, inputs, to)
     records += recorded(library, machine.copy(), inputs, len(last))
-    return Counted(one + other, records)
+    return Counted(added(one, other), records)
 
 
 def recorded(library: Library, machine: Machine, inputs: Inputs, number: int) -> bytes:
@@ -103,6 +112,6 @@ def _sum_apart(whole: Profile, states: Recording) -> Iterator[tuple[int, str]]:
     ran = max(it.count for it in states.checkpoints if not it.stop)
     stopped = next((it for it in states.checkpoints if it.stop), None)
     least, most = (ran + 1, stopped.count) if stopped else (ran, ran)
-    done = whole.instructions + (stopped is not None and stopped.stop == FETCH)
+    done = sum(whole.visits) + (stopped is not None and stopped.stop == FETCH)
     if not least <= done <= most:
         yield ran, f"sum of visits, {done} in place of {least} to {most}"

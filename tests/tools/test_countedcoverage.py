@@ -15,6 +15,7 @@ from galluspa.formats.recording import WORDS
 from galluspa.formats.sessions import Session
 from galluspa.process.cli import Refused
 from tests.programs import randomly, waiting
+from tests.programs.counting import added
 from tests.programs.trial import memory_of
 from tests.tools.samples import record
 
@@ -51,10 +52,10 @@ class BindingTest(unittest.TestCase):
             [(at, counted.visits[at], counted.departures[at]) for at in counted.visited()], [(0, 1, 0), (1, 50, 0), (2, 50, 50)]
         )
         self.assertEqual(
-            (len(counted.visits), len(counted.departures), counted.instructions, self.start.count), (WORDS, WORDS, 101, 0)
+            (len(counted.visits), len(counted.departures), sum(counted.visits), self.start.count), (WORDS, WORDS, 101, 0)
         )
         first, later = self.library.profile(self.start, self.down.inputs, 7), self.down.machine(7)
-        self.assertEqual(first + self.library.profile(later, self.down.inputs, 101), counted)
+        self.assertEqual(added(first, self.library.profile(later, self.down.inputs, 101)), counted)
 
     def test_records_have_the_processor_of_each_count(self) -> None:
         """R1 is 65,535 after the first instruction, and one less after each second one from there on."""

@@ -1,5 +1,7 @@
 """galluspa debug: its commands over --batch, and what it refuses."""
 
+import os
+
 from galluspa.debugger.navigation import THE_BEGINNING, THE_END
 from tests.tools.frames import FramesTest
 from tests.tools.samples import EXAMPLES, GALLUSPA, JUMP, record, rejoining, run, session, tool
@@ -283,6 +285,17 @@ class CommandsTest(FramesTest):
         self.assertEqual(len(ran.errors.splitlines()), 3)
         self.assertIn(b"00000007  7\n", ran.output)
         self.assertNotIn(b"print 8", ran.output)
+        # A write that failed is not forgotten at a later mistake.
+        self.assertEqual(run([GALLUSPA, "debug", self.recording], b"screen /dev/full\nfrob\n").status, 3)
+
+    def test_commands_that_are_not_utf_8_are_refused(self) -> None:
+        """Also where Python would not read them, as in most languages' settings."""
+        environment = {**os.environ, "PYTHONIOENCODING": "utf-8:strict"}
+        ran = run([GALLUSPA, "debug", self.recording], b"print \xff\nprint 7\n", env=environment)
+        self.assertEqual(ran.status, 2)
+        self.assertIn("standard input: ^\\xff: expected a number", ran.errors)
+        self.assertEqual(len(ran.errors.splitlines()), 2, ran.errors)
+        self.assertIn(b"00000007  7\n", ran.output)
 
     def test_bad_commands_are_one_line(self) -> None:
         for command, told in (

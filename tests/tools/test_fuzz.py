@@ -87,6 +87,12 @@ class FuzzTest(ToolTest):
         self.assertEqual((ran.errors, ran.status), ("", 1))
         self.assertEqual(ran.output.decode().splitlines()[1], "2 instructions in 3 steps, 0 inputs; session 50 of seed 4")
 
+    def test_the_name_of_the_folder_is_shown_in_a_line(self) -> None:
+        ran = self.fuzz(DECODED.name, "--seed", 4, "-j", 1, "-o", self.folder / "a\nb\x1b[2J")
+        self.assertEqual((ran.errors, ran.status), ("", 1))
+        self.assertIn(rf"{self.folder}/a\nb\x1b[2J/", ran.output.decode())
+        self.assertNotIn(b"\x1b", ran.output)
+
     def test_the_commands_of_the_document_find_each_of_them(self) -> None:
         """As they are shown, with each of the mistakes in place of the one that the document makes."""
         shown = [it.line for it in commands_of((TOP / "docs/testing-an-emulator.md").read_text())]

@@ -8,7 +8,7 @@ from typing import Any
 from galluspa.formats.oberonmodules import MOST_MODULES, modules_of
 from galluspa.formats.symbolfiles import parsed
 from galluspa.process.cli import Refused
-from tests.tools.samples import JUMP, STORED, ToolTest, record, session, tool
+from tests.tools.samples import GALLUSPA, JUMP, STORED, ToolTest, record, run, session, tool
 
 MEMORY_BYTES = 1 << 20
 MODULES: Sequence[tuple[str, Mapping[str, int]]] = (
@@ -102,6 +102,8 @@ class ModulesTest(ToolTest):
         self.assertEqual((ran.status, ran.errors, ran.output), (0, "", printed))
         recorded = self.file("it.orsr", text)
         self.assertEqual(tool("symbols", "--oberon", recorded, "--at", 0).output, printed)
+        # A pipe is read once.
+        self.assertEqual(run([GALLUSPA, "symbols", "--oberon", "/dev/stdin", "--at", 0], recorded.read_bytes()).output, printed)
         later = tool("symbols", "--oberon", recorded).output
         self.assertIn(b"System", printed)
         self.assertNotIn(b"System", later)

@@ -107,6 +107,22 @@ class OutputTest(ToolTest):
             self.assertEqual((ran.status, ran.errors), (3, f"galluspa {words[0]}: {path}: File too large\n"))
         self.assertEqual([it.name for it in self.folder.iterdir() if it.name.startswith(("none", ".galluspa"))], [])
 
+    def test_a_closed_standard_input_is_an_empty_one(self) -> None:
+        closed: dict[str, Any] = {"preexec_fn": lambda: os.close(0)}
+        path = self.file("it.orsr", STORED)
+        self.assertEqual(self.ended(["debug", path], subprocess.DEVNULL, **closed), Ran(b"", "", 0))
+        ran = self.ended(["compare-trace", path], subprocess.DEVNULL, **closed)
+        self.assertEqual(ran.status, 2, ran.errors)
+        self.assertTrue(ran.errors.startswith("galluspa compare-trace: standard input: no line: "), ran.errors)
+
+    def test_a_page_that_cannot_be_written_leaves_no_folder(self) -> None:
+        options: dict[str, Any] = {"preexec_fn": lambda: resource.setrlimit(resource.RLIMIT_FSIZE, (8, 8))}
+        path, temporary = self.file("it.orsr", STORED), self.folder / "temporary"
+        temporary.mkdir()
+        ran = self.ended(["live", path], subprocess.DEVNULL, env={**os.environ, "TMPDIR": str(temporary)}, **options)
+        self.assertEqual((ran.status, ran.errors[-16:]), (3, ": File too large\n"[-16:]), ran.errors)
+        self.assertEqual(list(temporary.iterdir()), [])
+
     def test_no_output_overwrites_an_input_or_another_output(self) -> None:
         source, included = self.file("it.asm", 'include "other.asm"\n'), self.file(
             "other.asm", "loop:   B loop\n        checkpoints 1\n"
@@ -210,6 +226,19 @@ class NamesTest(ToolTest):
         self.file(HOSTILE, b"{")
         self.assert_shown(it for it in commands if it[0] in ("explain", "listing", "check", "record", "bisect"))
         self.assertEqual(raw(on_terminal("suite", self.folder)).strip(b"\r\x1b"), b"")
+
+    def test_a_name_may_be_as_long_as_names_are(self) -> None:
+        """The name of a file that may be beside it, with another end, is too long then."""
+        path = self.file(f"suite/{'a' * 250}.orsr", STORED)
+        ran = tool("suite", path.parent)
+        self.assertEqual((ran.status, ran.errors), (0, ""))
+        self.assertIn(f"ok 1 - {path.name}: accepted 1 checkpoints 100 steps\n", ran.output.decode())
+        ran = tool("rerun", path.parent)
+        self.assertEqual((ran.status, ran.errors), (1, ""))
+        self.assertIn("not approved yet", ran.output.decode())
+        ran = tool("trace", self.file("b" * 253, STORED), "--steps", 1)
+        self.assertEqual((ran.status, ran.errors), (0, ""))
+        self.assert_refused(galluspa("c" * 5000), "c" * 5000)
 
     def assert_shown(self, commands: Iterable[list[object]]) -> None:
         """Tools show what they show, and nothing raw, in a few lines, with no traceback."""

@@ -25,7 +25,7 @@ class Trace:
             yield from self._heading(step)
         *inputs, shown = lines(step)
         yield from inputs
-        yield with_remark(shown, list(remarks_on(step, self._symbols)))
+        yield with_remark(shown, *remarks_on(step, self._symbols))
 
     def object(self, step: Step) -> dict[str, object]:
         """Returns the next instruction for machines."""
@@ -53,7 +53,7 @@ class CallTrace(Trace):
         super().__init__(symbols)
         self._entries = Entries(memoryview(machine.memory()).cast("I"), symbols)
         self._calls = RisingCalls(calls, machine.count)
-        self._heading_of_calls = stack_heading(calls)
+        self._heading_of_calls = f"stack since {calls.first:,}" if calls.first else "stack"
 
     def object(self, step: Step) -> dict[str, object]:
         """Returns the next instruction for machines; where the place changes, with the names of the stack."""
@@ -71,8 +71,3 @@ class CallTrace(Trace):
 
     def _open(self, step: Step) -> Sequence[Call]:
         return self._calls.at(step.before.count)
-
-
-def stack_heading(calls: Calls) -> str:
-    """Returns what is before the names of a stack, whose calls are those since the beginning of the run."""
-    return f"stack since {calls.first:,}" if calls.first else "stack"

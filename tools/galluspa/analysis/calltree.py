@@ -199,7 +199,6 @@ class CallTree:
         self._here = here.by_call if is_by_call else here.by_return
 
     def _opened(self, sites: list[Site]) -> Context:
-        """Returns the context of open calls."""
         it = self.top
         for site in sites:
             it = it.called(*site)

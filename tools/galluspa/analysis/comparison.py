@@ -126,7 +126,7 @@ def _separate(it: _Pair, slots: Sequence[int], only: Set[str]) -> Iterator[Found
     """Yields the words that differ first outside the display, and those of the display with how many dots differ, and
     where."""
     if "memory" in only:
-        found = (_word(it, slot, word) for slot in slots if (word := _first_word(it, slot, _is_no_dots)))
+        found = (_word(it, slot, word) for slot in slots if (word := _first_word(it, slot, lambda at: not _is_dots(at))))
         yield from islice(found, SLOTS_SHOWN)
         if more := sum(1 for _ in found):
             yield Found((f"  and {more:,} more page slots", "", ""), it.number)
@@ -152,10 +152,6 @@ def _first_word(it: _Pair, slot: int, is_wanted: Callable[[int], bool]) -> WordC
 def _is_dots(address: int) -> bool:
     """Returns whether a word has dots of the display."""
     return DISPLAY_START <= address < DISPLAY_END
-
-
-def _is_no_dots(address: int) -> bool:
-    return not _is_dots(address)
 
 
 def _word(it: _Pair, slot: int, word: WordChange, is_of_display: bool = False) -> Found:

@@ -3,24 +3,13 @@ addresses or a particular past, so that an instruction which was merely done cou
 
 from collections.abc import Iterator
 
-from galluspa.analysis.coveragetables import (
-    MOVES,
-    Cell,
-    Table,
-    bit,
-    is_move,
-    is_operation,
-    move_of,
-    operand_of,
-    signed,
-)
+from galluspa.analysis.coveragetables import MOVES, Cell, Table, move_of, operand_of
 from galluspa.engine.tracing import Step
 from galluspa.formats.devicewords import DEVICES_AT
-from galluspa.formats.instructions import CONDITIONS, OPERATIONS
+from galluspa.formats.instructions import CONDITIONS, OPERATIONS, bit, is_move, is_operation, signed
 from galluspa.formats.recording import KINDS, MEMORY_BYTES, Checkpoint
 from galluspa.formats.states import REGISTERS, flags
 
-SHIFTS = OPERATIONS[1:4]
 SUMS = ("ADD", "SUB")
 WITH_OPERANDS = OPERATIONS[1:12]
 KEEPING = [name for name in OPERATIONS[:12] if name not in SUMS]

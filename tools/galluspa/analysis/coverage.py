@@ -9,21 +9,10 @@ from collections.abc import Iterator, Set
 from dataclasses import dataclass, field
 
 from galluspa.analysis import cornercases
-from galluspa.analysis.coveragetables import (
-    MOVES,
-    Cell,
-    Row,
-    Table,
-    bit,
-    is_move,
-    is_operation,
-    move_of,
-    operand_of,
-    signed,
-)
+from galluspa.analysis.coveragetables import MOVES, Cell, Row, Table, move_of, operand_of
 from galluspa.engine.tracing import Step
 from galluspa.formats.devicewords import DEVICES_AT
-from galluspa.formats.instructions import ALWAYS, CONDITIONS, NEVER, OPERATIONS
+from galluspa.formats.instructions import ALWAYS, CONDITIONS, NEVER, OPERATIONS, bit, is_move, is_operation, signed
 from galluspa.formats.recording import KINDS, MEMORY_BYTES, Checkpoint
 from galluspa.process.cli import progress
 from galluspa.process.timelimit import TimeIsUp

@@ -1,7 +1,9 @@
-"""The tables of what instructions may exercise, and the fields of an instruction word that decide it."""
+"""The tables of what instructions may exercise, and what of an instruction word decides it."""
 
 from collections.abc import Iterator
 from dataclasses import dataclass
+
+from galluspa.formats.instructions import bit
 
 Cell = tuple[str, str, str]
 # A row of a table.
@@ -23,27 +25,6 @@ class Table:
         """Yields the cells that can be."""
         for row in self.rows:
             yield from ((self.name, row, column) for column in self.columns if (row, column) not in self.absent)
-
-
-def bit(word: int, place: int) -> int:
-    """Returns a bit of a word."""
-    return word >> place & 1
-
-
-def signed(word: int, bits: int) -> int:
-    """Returns the signed number in the low bits of a word."""
-    low = word & (1 << bits) - 1
-    return low - (low >> bits - 1 << bits)
-
-
-def is_operation(word: int) -> bool:
-    """Returns whether a word is an operation on registers."""
-    return word >> 31 == 0
-
-
-def is_move(word: int) -> bool:
-    """Returns whether a word is a load or a store."""
-    return word >> 30 == 2
 
 
 def move_of(word: int) -> str:

@@ -1,13 +1,14 @@
-"""Says which dots of the screen a run draws while procedures are called, and masks dots that do not count.
+"""Says which dots of the screen a run draws while procedures are called, masks dots that do not count, and compares screens.
 
 A bitmap has the dots of the screen as the program draws them: a bit for each, row by row from the top, without a head.
 """
 
 from bisect import bisect_right
 from collections.abc import Iterable, Iterator, Sequence
+from dataclasses import dataclass
 from time import monotonic
 
-from galluspa.analysis.film import HEIGHT, ROW, WIDTH
+from galluspa.analysis.film import HEAD, HEIGHT, ROW, WIDTH
 from galluspa.analysis.rawconditions import CHANGE, Condition, Raw
 from galluspa.analysis.search import array_of
 from galluspa.engine.following import NO_CALL, Follower
@@ -55,6 +56,47 @@ class Mask:
         """Returns whether all these dots of a word of the display are masked."""
         masked = int.from_bytes(self._bitmap[(at := _place(address)) : at + 4].translate(REVERSED), "little")
         return not bits & ~masked
+
+
+@dataclass(frozen=True)
+class Dots:
+    """Dots in which two screens differ: how many there are, the box around them, from the left and from below, and the first of
+    them from the top."""
+
+    number: int
+    left: int
+    bottom: int
+    right: int
+    top: int
+    first: tuple[int, int]
+
+    @property
+    def box(self) -> tuple[int, int, int, int]:
+        """Returns the least x and y of the dots, and their greatest, counted from the left and from below."""
+        return self.left, self.bottom, self.right, self.top
+
+    def __str__(self) -> str:
+        dots = f"{self.number:,} {'dot' if self.number == 1 else 'dots'}"
+        return f"{dots} from {self.left},{self.bottom} to {self.right},{self.top}"
+
+
+def dots_differing(one: bytes, other: bytes, masks: Sequence[bytes] = ()) -> Dots | None:
+    """Returns in which dots two screens differ, but for those in bitmaps of what does not count; None if they differ in none."""
+    number, rows, columns, first = 0, list[int](), 0, (0, 0)
+    for row in range(HEIGHT):
+        at = HEAD + ROW * row
+        bits = int.from_bytes(one[at : at + ROW]) ^ int.from_bytes(other[at : at + ROW])
+        for mask in masks if bits else ():
+            bits &= ~int.from_bytes(mask[at - HEAD : at - HEAD + ROW])
+        if bits:
+            first = first if rows else (WIDTH - bits.bit_length(), HEIGHT - 1 - row)
+            number += bits.bit_count()
+            rows.append(HEIGHT - 1 - row)
+            columns |= bits
+    if not number:
+        return None
+    left, right = WIDTH - columns.bit_length(), WIDTH - 1 - ((columns & -columns).bit_length() - 1)
+    return Dots(number, left, min(rows), right, max(rows), first)
 
 
 def _place(address: int) -> int:

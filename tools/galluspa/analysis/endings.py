@@ -4,10 +4,13 @@ import argparse
 from collections.abc import Sequence
 from dataclasses import replace
 
+from galluspa.analysis.rawconditions import WRITTEN, Condition
+from galluspa.analysis.search import Search
 from galluspa.assembler.encoding import DEVICES, TIMER
-from galluspa.engine.library import Library
+from galluspa.engine.library import Library, ignore
 from galluspa.engine.machine import Inputs, Machine
-from galluspa.engine.program import ACCEPTED, Program
+from galluspa.engine.program import Program
+from galluspa.engine.tracing import RunFrom
 from galluspa.formats import recording
 from galluspa.formats.instructions import address, is_store
 from galluspa.formats.language import LANGUAGE, LOOPS, STOPS, mistake
@@ -28,47 +31,32 @@ class NoEnd(Refused):
     """A run that does not end as it is to end."""
 
 
-class Run:
-    """A run of a session, which callers read at rising counts."""
+class Run(RunFrom):
+    """A run of a session."""
 
     def __init__(self, library: Library, program: Program, session: Session) -> None:
         alone = replace(session, inputs=[], checkpoints=[])
-        answer = program.record(alone.text().encode())
-        if answer.status != ACCEPTED:
-            raise Refused(answer.line)
-        self.library = library
-        self.first = library.claim(answer.output, 0)
-        self.inputs = Inputs(session.inputs)
+        first = library.claim(program.recorded(alone.text().encode()), 0)
+        super().__init__(library, first, Inputs(session.inputs))
         self.settled = session.inputs[-1].count + 1 if session.inputs else 0
 
-    def at(self, count: int, before: Machine | None = None) -> Machine:
+    def later(self, before: Machine, count: int) -> Machine:
         """Returns the machine at a count, from one at a count before."""
-        machine = (before or self.first).copy()
-        self.library.advance(machine, self.inputs, count)
+        machine = before.copy()
+        self.advance(machine, count)
         return machine
 
     def stop(self, most: int) -> int | None:
         """Returns the first count at which the machine is stopped, up to one."""
-        before, machine = self.first, self.at(min(GROWTH, most))
-        while not machine.state.stop:
-            if machine.count >= most:
-                return None
-            before, machine = machine, self.at(min(machine.count * GROWTH, most), machine)
-        end = machine.count
-        while end - before.count > 1:
-            middle = self.at((before.count + end) // 2, before)
-            if middle.state.stop:
-                end = middle.count
-            else:
-                before = middle
-        return end
+        hit = Search(self, [Condition("stop", WRITTEN["stop"])], 0, most, tell=ignore).first()
+        return hit.count + 1 if hit else None
 
     def loop(self, most: int) -> int | None:
         """Returns the first count, after all inputs and up to one, from which on the machine comes back to the same state again
         and again."""
         if self.settled > most:
             return None
-        settled = machine = self.at(self.settled)
+        settled = machine = self.machine(self.settled)
         steps = GROWTH
         while True:
             is_last = machine.count >= most
@@ -77,14 +65,14 @@ class Run:
                 return self._loop_start(settled, machine.count, length)
             if is_last:
                 return None
-            machine = self.at(min(machine.count + steps, most), machine)
+            machine = self.later(machine, min(machine.count + steps, most))
             steps *= GROWTH
 
     def _loop_start(self, before: Machine, end: int, length: int) -> int:
         """Returns the first count, from that of a machine on, in a loop of this length that the machine is in at the end. A
         shorter search may have missed the loop at any of the counts between, so none of them is taken to be outside."""
         while end > before.count:
-            middle = self.at((before.count + end) // 2, before)
+            middle = self.later(before, (before.count + end) // 2)
             if self.loop_length(middle, length):
                 end = middle.count
             elif middle.count == before.count:
@@ -100,7 +88,7 @@ class Run:
         for length in range(1, longest + 1):
             if start.state.stop or machine.state.rate and _reads_timer(machine):
                 return None
-            self.library.advance(machine, self.inputs, machine.count + 1)
+            self.advance(machine, machine.count + 1)
             if machine.state.pc == start.state.pc and _is_same(start, machine):
                 return length
         return None
@@ -135,7 +123,7 @@ def end_of(asked: argparse.Namespace, session: Session, end: str, most: int) -> 
     if count is not None:
         return max(count, 1)
     if end == LOOPS and (stopped := run.stop(most)):
-        state = run.at(stopped).state
+        state = run.machine(stopped).state
         name = recording.STOPS[state.stop]
         raise NoEnd(mistake("noLoop", count=stopped, word=state.pc, stop=state.stop, name=name, advice=ADVICE[state.stop]))
     if end == STOPS:

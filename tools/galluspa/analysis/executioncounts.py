@@ -65,19 +65,16 @@ def is_conditional(word: int, at: int) -> bool:
     return is_branch(word) and word >> 24 & 15 not in (ALWAYS, NEVER) and branches_to(word, at) != at + 1
 
 
-def executions_of(run: Run, first: int, to: int, heard: Callable[[int], None] = ignore) -> Executions:
-    """Returns what a run executes from a count up to another. Reports the count after each slice."""
-
-    def advance(machine: Machine, end: int) -> None:
-        run.advance(machine, end)
-
-    return executions_along(run, run.machine(first), to, advance, heard)
+def executions_of(run: Run, first: int, to: int) -> Executions:
+    """Returns what a run executes from a count up to another."""
+    return executions_along(run, run.machine(first), to, run.advance, ignore)
 
 
 def executions_along(
-    run: Run, machine: Machine, to: int, advance: Callable[[Machine, int], None], heard: Callable[[int], None]
+    run: Run, machine: Machine, to: int, advance: Callable[[Machine, int], object], heard: Callable[[int], None]
 ) -> Executions:
-    """Returns what a machine of a run executes up to a count, while a function advances it, slice by slice."""
+    """Returns what a machine of a run executes up to a count, while a function advances it, slice by slice. Reports the count after
+    each slice."""
     found, steps = Executions(), FIRST_STEPS
     while machine.count < to and not machine.state.stop and not children.is_ending():
         if run.library.limit:

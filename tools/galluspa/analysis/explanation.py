@@ -9,14 +9,16 @@ from collections.abc import Iterable, Iterator, Sequence
 from dataclasses import dataclass, field, replace
 
 from galluspa.analysis.calls import Calls
-from galluspa.analysis.inspection import stack_line
+from galluspa.analysis.drawing import Dots, dots_differing
+from galluspa.analysis.film import HEAD, HEIGHT, ROW, WIDTH
+from galluspa.analysis.inspection import screen_of, stack_line
 from galluspa.analysis.lastwrites import LastWrite, last_write
 from galluspa.analysis.naming import named_row, placed_lines
 from galluspa.engine.machine import Machine, Sent
 from galluspa.engine.program import Program
 from galluspa.engine.tracing import Run, Step, WordChange, differing, with_progress
 from galluspa.formats import states
-from galluspa.formats.recording import DISPLAY_END, DISPLAY_START, PAGE_BYTES, Checkpoint, Recording, of_display
+from galluspa.formats.recording import DISPLAY_END, DISPLAY_START, PAGE_BYTES, Checkpoint, Recording
 from galluspa.formats.symbols import NONE, Symbols
 from galluspa.process.escapes import printable
 from galluspa.process.timelimit import TimeIsUp
@@ -28,7 +30,6 @@ WRITERS = 5
 NOT_SOUGHT = ("PC", "timer", "rate", "phase")
 WORDS_SHOWN = 64
 BYTES_SHOWN = 48
-HEAD, ROW_BYTES, ROWS = 12, 128, 768
 SIGNS = "Dots that differ are + where they are set, and - where they are not; # and . are alike."
 DOTS_WIDE, DOTS_HIGH = 36, 24
 FINDS_IT = "If COMMAND prints your emulator's state at a count, this finds the instruction:"
@@ -60,52 +61,27 @@ class Around:
 
 @dataclass(frozen=True)
 class Screens:
-    """Two screens that differ, as binary PBM: the claimed one, and that of the machine."""
+    """Two screens that differ, as binary PBM: the claimed one, and that of the machine; and the dots in which they do."""
 
     claimed: bytes = field(repr=False)
     defined: bytes = field(repr=False)
-
-    def box(self) -> tuple[int, int, int, int]:
-        """Returns the least and the greatest x, and the least and the greatest row from the top, of the dots that
-        differ."""
-        pairs = ((row, self._different(row)) for row in range(ROWS))
-        rows = [(row, bits) for row, bits in pairs if bits]
-        every = 0
-        for _, bits in rows:
-            every |= bits
-        width = 8 * ROW_BYTES
-        return width - every.bit_length(), width - 1 - ((every & -every).bit_length() - 1), rows[0][0], rows[-1][0]
-
-    def box_from_below(self) -> tuple[int, int, int, int]:
-        """Returns the least x and y of the dots that differ, and their greatest, counted from the left and from below."""
-        left, right, top, bottom = self.box()
-        return left, ROWS - 1 - bottom, right, ROWS - 1 - top
-
-    def number(self) -> int:
-        """Returns how many dots differ."""
-        return sum(self._different(row).bit_count() for row in range(ROWS))
-
-    def _different(self, row: int) -> int:
-        start = HEAD + ROW_BYTES * row
-        claimed, defined = (pbm[start : start + ROW_BYTES] for pbm in (self.claimed, self.defined))
-        return int.from_bytes(claimed, "big") ^ int.from_bytes(defined, "big")
+    dots: Dots
 
     def summary(self) -> str:
         """Returns how many dots differ, and where."""
-        left, bottom, right, top = self.box_from_below()
-        many = self.number()
+        it = self.dots
         return (
-            f"{many:,} {'dot differs' if many == 1 else 'dots differ'}, at {_span('x', left, right)} "
-            f"and {_span('y', bottom, top)}, counted from the left and from below"
+            f"{it.number:,} {'dot differs' if it.number == 1 else 'dots differ'}, at {_span('x', it.left, it.right)} "
+            f"and {_span('y', it.bottom, it.top)}, counted from the left and from below"
         )
 
     def rows(self) -> Iterator[tuple[str, ...]]:
         """Yields the dots around those that differ, row by row from the top, claimed and the machine's: # and . for
         those that are alike, + and - for those that differ, where the dot is set and where it is not."""
-        left, right, top, bottom = self.box()
-        left = max(0, min(left - 4, 8 * ROW_BYTES - DOTS_WIDE))
-        top = max(0, min(top - 2, ROWS - DOTS_HIGH))
-        right, bottom = min(right + 5, left + DOTS_WIDE, 8 * ROW_BYTES), min(bottom + 3, top + DOTS_HIGH, ROWS)
+        left = max(0, min(self.dots.left - 4, WIDTH - DOTS_WIDE))
+        top = max(0, min(HEIGHT - 3 - self.dots.top, HEIGHT - DOTS_HIGH))
+        right = min(self.dots.right + 5, left + DOTS_WIDE, WIDTH)
+        bottom = min(HEIGHT + 2 - self.dots.bottom, top + DOTS_HIGH, HEIGHT)
         for row in range(top, bottom):
             pairs = [(_dot(self.claimed, x, row), _dot(self.defined, x, row)) for x in range(left, right)]
             yield tuple("".join(".#-+"[2 * (pair[0] != pair[1]) + pair[side]] for pair in pairs) for side in (0, 1))
@@ -116,7 +92,7 @@ def _span(name: str, first: int, last: int) -> str:
 
 
 def _dot(pbm: bytes, x: int, row: int) -> int:
-    return pbm[HEAD + ROW_BYTES * row + x // 8] >> 7 - x % 8 & 1
+    return pbm[HEAD + ROW * row + x // 8] >> 7 - x % 8 & 1
 
 
 @dataclass(frozen=True)
@@ -232,12 +208,11 @@ def _differences(claimed: Checkpoint, defined: Checkpoint) -> Iterator[Differenc
 
 
 def _screens(program: Program, claimed: Machine, defined: Machine) -> Screens | None:
-    sides = [(machine.seen(), machine.memory()) for machine in (claimed, defined)]
-    if sides[0][1][DISPLAY_START:DISPLAY_END] == sides[1][1][DISPLAY_START:DISPLAY_END]:
+    if claimed.memory()[DISPLAY_START:DISPLAY_END] == defined.memory()[DISPLAY_START:DISPLAY_END]:
         return None
-    first = DISPLAY_START // PAGE_BYTES * PAGE_BYTES
-    program = replace(program, limit=None)
-    return Screens(*(program.screen(of_display(state, memory[first:]), 0).output for state, memory in sides))
+    one, other = (screen_of(machine, replace(program, limit=None)) for machine in (claimed, defined))
+    dots = dots_differing(one, other)
+    return Screens(one, other, dots) if dots else None
 
 
 @dataclass(frozen=True)

@@ -60,10 +60,10 @@ def _number(found: re.Match[str]) -> int:
 
 
 class Parser:
-    """Reads an expression from a place of a text on. In an address a name stands for its own address."""
+    """Reads an expression from the beginning of a text on. In an address a name stands for its own address."""
 
-    def __init__(self, text: str, symbols: Symbols = NONE, is_address: bool = False, at: int = 0) -> None:
-        self.text, self.at = text, at
+    def __init__(self, text: str, symbols: Symbols = NONE, is_address: bool = False) -> None:
+        self.text, self.at = text, 0
         # Whether a comparison was read, or something else that only conditions have.
         self.has_compared = False
         self._symbols = symbols
@@ -174,7 +174,7 @@ class Parser:
         name = self._name_here()
         key = name.removeprefix("$").upper()
         if not name or key in ("AND", "OR", "NOT"):
-            raise self._wrong(self._why_no_operand())
+            raise self._wrong(self._wanted)
         if key in REGISTER_NAMES and is_register:
             self._go(self.at + len(name))
             return Part(REGISTER_NAMES[key])
@@ -261,9 +261,6 @@ class Parser:
     @property
     def _wanted(self) -> str:
         return WANTED_ADDRESS if self._is_address else WANTED
-
-    def _why_no_operand(self) -> str:
-        return self._wanted
 
     def _why_no_sign(self) -> str:
         if self.text.startswith("=", self.at) and not self.text.startswith("==", self.at):

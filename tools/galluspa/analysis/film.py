@@ -14,15 +14,16 @@ from itertools import chain
 
 from galluspa.engine.program import Program
 from galluspa.engine.tracing import Run
-from galluspa.formats.recording import DISPLAY_END, DISPLAY_START, PAGE_BYTES, PLACES, Recording, of_display
+from galluspa.formats.recording import DISPLAY_END, DISPLAY_PAGES, DISPLAY_START, Recording
 
 WIDTH, HEIGHT = 1024, 768
-ROW, HEAD = WIDTH // 8, len(b"P4\n1024 768\n")
+# How a screen begins, as the program draws it.
+HEADER = b"P4\n1024 768\n"
+ROW, HEAD = WIDTH // 8, len(HEADER)
 # How long a frame is shown; the longest time that a frame of an animated PNG can say is a bit above a minute.
 FRAME_MS, MOST_FRAME_MS = 100, 60_000
 # The size in bytes at which a film takes no more frames.
 BYTES = 32 << 20
-FIRST_PAGE = DISPLAY_START // PAGE_BYTES * PAGE_BYTES
 INVERTED = bytes(255 - it for it in range(256))
 KEPT, REPLACED = 0, 0
 
@@ -39,9 +40,9 @@ def shots_of_claims(read: Recording, program: Program) -> Iterator[Shot]:
     """Yields the screens that the checkpoints claim, the initial state's among them."""
     before, pbm = b"", b""
     for claim in read.checkpoints:
-        memory = read.memory(claim, FIRST_PAGE, PLACES * PAGE_BYTES)
+        memory = read.display(claim)
         if _display(memory) != _display(before):
-            before, pbm = memory, program.screen(of_display(claim, memory), 0).output
+            before, pbm = memory, program.drawn(claim, memory)
         yield Shot(claim.count, pbm)
 
 
@@ -51,15 +52,15 @@ def shots_of_run(run: Run, program: Program, every: int) -> Iterator[Shot]:
     machine, last = run.claimed(0), run.counts[-1]
     for count in chain(range(machine.count, last, every), [last]):
         run.advance(machine, count)
-        memory = machine.memory()[FIRST_PAGE:]
+        memory = machine.memory()[DISPLAY_PAGES:]
         if _display(memory) != _display(before):
-            before, pbm = memory, program.screen(of_display(machine.seen(), memory), 0).output
+            before, pbm = memory, program.drawn(machine.seen(), memory)
         yield Shot(count, pbm)
 
 
 def _display(memory: bytes) -> bytes:
     """Returns the display in the pages from its first one on."""
-    return memory[DISPLAY_START - FIRST_PAGE : DISPLAY_END - FIRST_PAGE]
+    return memory[DISPLAY_START - DISPLAY_PAGES : DISPLAY_END - DISPLAY_PAGES]
 
 
 @dataclass

@@ -6,7 +6,7 @@
 import struct
 from collections.abc import Iterator, Mapping, Sequence
 
-from galluspa.analysis.film import picture
+from galluspa.analysis.film import HEAD, picture
 from galluspa.analysis.calls import Calls
 from galluspa.analysis.entries import Entries
 from galluspa.analysis.naming import with_remark
@@ -15,7 +15,7 @@ from galluspa.engine.machine import Machine
 from galluspa.engine.program import Program
 from galluspa.formats import states
 from galluspa.formats.instructions import instruction
-from galluspa.formats.recording import DISPLAY_START, MEMORY_BYTES, PAGE_BYTES, STOPS, WORDS, Checkpoint, of_display
+from galluspa.formats.recording import MEMORY_BYTES, STOPS, WORDS, Checkpoint
 from galluspa.formats.symbols import Symbols
 from galluspa.process.cli import Refused
 from galluspa.process.timelimit import TimeIsUp
@@ -25,7 +25,6 @@ LEAST_NAMED = 0x100
 STACK_WORDS = 16
 # The parts of a state besides the registers and the program counter, in the lines in which they are shown.
 DEVICES = (("timer", "rate", "phase"), ("switches", "LEDs", "mouse"), ("serial", "keys"))
-FIRST_PAGE = DISPLAY_START // PAGE_BYTES * PAGE_BYTES
 # The screen as text: COARSE dots side by side are one dot of a character, which has two by four.
 COARSE, ACROSS, DOWN = 8, 2, 4
 BRAILLE = 0x2800
@@ -56,10 +55,9 @@ def register_lines(state: Checkpoint, symbols: Symbols) -> Iterator[str]:
     """R0 to R15, H, PC and the flags: in hexadecimal and as numbers with a sign, with the names of addresses."""
     for name, value in zip(states.REGISTERS, state.registers, strict=True):
         signed = value - (value >> 31 << 32)
-        held = held_name(name, value, symbols)
-        yield with_remark(f"{name:6}{value:08X}  {signed:>11}", [*filter(None, [held])])
+        yield with_remark(f"{name:6}{value:08X}  {signed:>11}", held_name(name, value, symbols))
     yield f"{'H':6}{state.h:08X}  {state.h - (state.h >> 31 << 32):>11}"
-    yield with_remark(f"{'PC':6}{state.pc:<8}  {4 * state.pc:>10X}H", [*filter(None, [symbols.text(4 * state.pc)])])
+    yield with_remark(f"{'PC':6}{state.pc:<8}  {4 * state.pc:>10X}H", symbols.text(4 * state.pc))
     yield f"flags {states.flags(state.flags)}"
 
 
@@ -78,7 +76,7 @@ def memory_lines(machine: Machine, address: int, number: int, symbols: Symbols) 
         content = struct.pack("<I", word)
         signs = "".join(chr(byte) if 0x20 <= byte < 0x7F else "." for byte in content)
         shown = f"{4 * at:06X}  {word:08X}  {word - (word >> 31 << 32):>11}  {content.hex(' ')}  {signs}"
-        yield with_remark(shown, [*filter(None, [symbols.text(4 * at)])])
+        yield with_remark(shown, symbols.text(4 * at))
 
 
 def entries_of(machine: Machine, symbols: Symbols) -> Entries:
@@ -125,13 +123,13 @@ def instruction_lines(machine: Machine, first: int, number: int, symbols: Symbol
     for at in range(first, min(first + number, WORDS)):
         word, mark = machine.words[at], "=>" if at == machine.state.pc and not machine.state.stop else "  "
         decoded = instruction(word, at)
-        remarks = filter(None, [symbols.text(4 * at), symbols.source(4 * at)])
-        yield with_remark(f"{mark}{at:>6}  {word:08X}  {decoded.mnemonic:20}  {decoded.meaning}", [*remarks])
+        shown = f"{mark}{at:>6}  {word:08X}  {decoded.mnemonic:20}  {decoded.meaning}"
+        yield with_remark(shown, symbols.text(4 * at), symbols.source(4 * at))
 
 
 def screen_of(machine: Machine, program: Program) -> bytes:
     """Returns the machine's screen as the program draws it: a binary PBM."""
-    return program.screen(of_display(machine.seen(), machine.memory()[FIRST_PAGE:]), 0).output
+    return program.drawn(machine.seen(), machine.memory())
 
 
 def picture_of(pbm: bytes, name: str) -> bytes:
@@ -142,7 +140,7 @@ def picture_of(pbm: bytes, name: str) -> bytes:
 def screen_lines(pbm: bytes) -> Iterator[str]:
     """Yields a screen as text, with a dot of a character of Braille for each eight by eight dots of which one is set;
     lines at its end that are empty are left out."""
-    rows = pbm[len(b"P4\n1024 768\n") :]
+    rows = pbm[HEAD:]
     coarse = [
         [any(rows[128 * (COARSE * y + part) + x] for part in range(COARSE)) for x in range(128)] for y in range(768 // COARSE)
     ]

@@ -95,7 +95,10 @@ def last_writer(run: Run, register: str, first: int, to: int, jobs: int = 1) -> 
 def last_change(run: Run, register: str, first: int, to: int, jobs: int = 1) -> RawStep | None:
     """Returns the last instruction in the counts from `first` to `to` that changes a register, H or the flags: it is the last
     one by which the register becomes what it is at `to`."""
-    hit = Search(run, [_becoming(register, _value(run, register, to))], first, to, jobs).last() if first < to else None
+    if first >= to:
+        return None
+    becomes = Raw(BECOMES, REGISTER_NUMBERS[register], value=_value(run, register, to))
+    hit = Search(run, [Condition(f"{register} changes", (becomes,))], first, to, jobs).last()
     return hit.raw if hit else None
 
 
@@ -119,12 +122,6 @@ def _changed(run: Run, register: str, step: Step, first: int, jobs: int) -> Step
     return step_of(raw) if raw else None
 
 
-def _becoming(register: str, value: int) -> Condition:
-    """Returns the condition that a register becomes a value."""
-    return Condition(f"{register}={value}", (Raw(BECOMES, REGISTER_NUMBERS[register], value=value),))
-
-
 def _value(run: Run, register: str, count: int) -> int:
-    """Returns the value of a register at a count."""
     seen = run.machine(count).seen()
     return (*seen.registers, seen.h, seen.flags)[REGISTER_NUMBERS[register]]

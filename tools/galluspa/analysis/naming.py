@@ -14,9 +14,10 @@ from galluspa.formats.symbols import Symbols
 WORD_OF_MEMORY = re.compile(r"\bMem\[([0-9A-F]{6})\]")
 
 
-def with_remark(shown: str, remarks: Sequence[str]) -> str:
-    """Returns a line, with what is said by name after it."""
-    return f"{shown}  ; {', '.join(remarks)}" if remarks else shown
+def with_remark(shown: str, *remarks: str) -> str:
+    """Returns a line, with what is said by name after it, if anything is."""
+    told = ", ".join(filter(None, remarks))
+    return f"{shown}  ; {told}" if told else shown
 
 
 def remarks_on(step: Step, symbols: Symbols) -> Iterator[str]:
@@ -47,8 +48,7 @@ def _accessed(step: Step, symbols: Symbols) -> str:
 def placed_lines(step: Step, symbols: Symbols) -> list[str]:
     """Returns the lines that show an instruction, with all that is said of it by name: where it is, too."""
     *inputs, shown = lines(step)
-    place = symbols.text(4 * step.before.pc)
-    return [*inputs, with_remark(shown, [*filter(None, [place]), *remarks_on(step, symbols)])]
+    return [*inputs, with_remark(shown, symbols.text(4 * step.before.pc), *remarks_on(step, symbols))]
 
 
 def remark_on_part(part: str, values: Sequence[str], symbols: Symbols) -> str:
@@ -63,7 +63,7 @@ def remark_on_part(part: str, values: Sequence[str], symbols: Symbols) -> str:
 def named_row(row: Sequence[str], symbols: Symbols) -> Sequence[str]:
     """Returns a row of a part and of its values, with what a symbol file says of them after it."""
     part, *values, last = row
-    return (part, *values, with_remark(last, [*filter(None, [remark_on_part(part, [*values, last], symbols)])]))
+    return (part, *values, with_remark(last, remark_on_part(part, [*values, last], symbols)))
 
 
 def named_object(step: Step, symbols: Symbols) -> dict[str, object]:

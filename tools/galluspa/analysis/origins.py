@@ -252,7 +252,6 @@ def register_of(state: Checkpoint, name: str) -> int:
 
 
 def _loaded(step: Step, writes: Writes) -> Value:
-    """Returns the value that a load loads."""
     word = step.word or 0
     at, value = address(word, step.before.registers) or 0, step.after.registers[word >> 24 & 15]
     if at < MEMORY_BYTES:

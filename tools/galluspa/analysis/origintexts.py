@@ -25,7 +25,6 @@ from galluspa.formats.symbols import Symbols
 from galluspa.formats.recording import Event
 
 INDENT = "  "
-FOLLOWS = "It follows values, and not the branches that led to an instruction."
 
 
 def lines(values: Sequence[Value], symbols: Symbols, sources: Sources | None = None, depth: int = 0) -> Iterator[str]:
@@ -45,7 +44,7 @@ def line(it: Value, symbols: Symbols, sources: Sources | None = None) -> str:
     if it.step:
         word = it.step.word or 0
         shown += f"  at {it.step.before.count:,}  {it.step.before.pc}  {mnemonic(word)}"
-    return with_remark(shown + _ending(it), [*filter(None, [_place(it, symbols, sources)])])
+    return with_remark(shown + _ending(it), _place(it, symbols, sources))
 
 
 def _ending(it: Value) -> str:

@@ -7,7 +7,7 @@ are done while a call of it is open, by the library's definition of a call (call
 from collections import Counter
 from collections.abc import Callable, Iterator
 from dataclasses import dataclass
-from functools import cached_property
+from functools import cache, cached_property
 
 from galluspa.analysis.calls import Calls
 from galluspa.analysis.calltree import CallTree, Edge, Totals
@@ -98,20 +98,6 @@ class Profile:
                 yield [it.procedure.name for it in [*path, node][1:]] or [NO_CALL_NAME], node.count
 
 
-class _Outside:
-    """Which procedure a word is in, which may be outside memory."""
-
-    def __init__(self, procedures: Procedures) -> None:
-        self._procedures = procedures
-        self._known: dict[int, Procedure] = {}
-
-    def of(self, at: int) -> Procedure:
-        """Returns the procedure of a word."""
-        if at not in self._known:
-            self._known[at] = self._procedures.of(at) if at < WORDS else Procedure(WORDS, NO_NAME, NO_MODULE)
-        return self._known[at]
-
-
 def profile_of(
     run: Run, first: int, to: int, symbols: Symbols, limit: int = EACH_RISE, heard: Callable[[int], None] = ignore
 ) -> Profile:
@@ -128,7 +114,13 @@ def profile_of(
     machine = follower.machine
     seen = executions_along(run, machine, to, advance, heard)
     procedures = Procedures(seen, symbols)
-    totals = Totals(_Outside(procedures).of, TOP)
+
+    @cache
+    def procedure_of(at: int) -> Procedure:
+        """Returns the procedure of a word, which may be outside memory."""
+        return procedures.of(at) if at < WORDS else Procedure(WORDS, NO_NAME, NO_MODULE)
+
+    totals = Totals(procedure_of, TOP)
     if tree.is_full:
         # There are many ways of calls: they are added to the totals in parts, once it is known which words are whose.
         follower = calls.follower(first)

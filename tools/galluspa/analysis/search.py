@@ -189,7 +189,6 @@ class Search:
         yield from children.in_parallel(self._jobs, lambda it: function(it, run), segments)
 
     def _hits_of(self, segment: _Segment, run: Run, most: int) -> Iterator[Hit]:
-        """The hits of a segment, at most `most`."""
         tell, room = partial(self._tell, self._reached, segment), min(most, ROOM)
         for machine, end in self._slices(run, run.machine(segment.first), segment.end, tell):
             while machine.count < end:

@@ -5,7 +5,7 @@ import time
 from collections.abc import Iterator
 
 from galluspa.engine.machine import Machine
-from galluspa.engine.tracing import Run, Step
+from galluspa.engine.tracing import Run
 from galluspa.process.cli import progress
 from galluspa.process.timelimit import Limit, TimeIsUp
 
@@ -76,10 +76,6 @@ class Timeline(Run):
             self._kept[machine.count] = machine
             if len(self._kept) > KEPT:
                 del self._kept[next(iter(self._kept))]
-
-    def step(self, count: int) -> Step | None:
-        """Returns the instruction of a count; None if the machine is stopped there."""
-        return next(self.steps(self.machine(count), count + 1), None)
 
 
 def waypoints(first: int, to: int) -> Iterator[int]:

@@ -189,22 +189,12 @@ def _counters(least: int, most: int) -> Iterator[Raw]:
 
 def _of_flags(node: Comparison) -> Alternatives:
     """Returns the conditions of the library that a comparison of nothing but the flags is."""
-    values = [it for it in range(FLAGS) if value_at(node, Moment(_with_flags(it), _no_word))]
+    values = [it for it in range(FLAGS) if value_at(node, Moment(Checkpoint(0, flags=it), lambda at: 0))]
     if len(values) == FLAGS:
         return ((),)
     breaks = [0, *(at for at, (one, other) in enumerate(pairwise(values), 1) if other != one + 1), len(values)]
     runs = [values[first:end] for first, end in pairwise(breaks) if first < end]
     return tuple((Raw(IS, REGISTER_NUMBERS["flags"], least=it[0], most=it[-1]),) for it in runs)
-
-
-def _with_flags(flags: int) -> Checkpoint:
-    """Returns a state with these flags."""
-    return Checkpoint(0, flags=flags)
-
-
-def _no_word(at: int) -> int:
-    """Stands for a memory that nothing reads."""
-    return 0
 
 
 def tested(node: Node) -> Callable[[Moment], bool]:

@@ -20,12 +20,11 @@ from galluspa.assembler.statements import INSTRUCTION, Statement
 from galluspa.formats.builds import sums_of
 from galluspa.formats.symbolfiles import LONGEST_NAME, MOST_BYTES, MOST_LINES, written
 from galluspa.formats.symbols import CODE, CONSTANT, DATA, WORDS, Source, Symbol
-from galluspa.process.cli import OK, Output, Parser, Refused, refuse_overwriting, write_file
+from galluspa.process.cli import OK, Output, Parser, Refused, refuse_overwriting, write_file, write_output
 from galluspa.process.escapes import printable
 
 
 def parser() -> Parser:
-    """Returns the command line of this tool."""
     options = Parser(
         dedent(
             """\
@@ -56,8 +55,7 @@ def parser() -> Parser:
         type=Output,
         help="write a symbol file, too: the labels, the constants, and the line of each instruction",
     )
-    options.add_program_option()
-    options.add_library_option()
+    options.add_machine_options()
     options.add_limit_option("look for an end of the run for this many seconds, if the source says `until`")
     return options
 
@@ -167,11 +165,7 @@ def main(asked: Namespace) -> int:
         settings.set_checkpoints(it, made, end_of(asked, it, made))
         refuse_if_wrong(asked, it, it.problems)
         tell(it, settings.notes_of(made))
-        text = made.session.text()
-        if asked.output:
-            write_file(asked.output, text.encode())
-        else:
-            sys.stdout.write(text)
+        write_output(asked.output, made.session.text())
     if asked.symbols:
         write_file(asked.symbols, symbols)
     return OK

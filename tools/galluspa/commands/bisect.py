@@ -87,7 +87,6 @@ class Search:
 
 
 def parser() -> Parser:
-    """Returns the command line of this tool."""
     options = Parser(
         dedent(
             f"""\
@@ -126,8 +125,7 @@ def parser() -> Parser:
     )
     add_seconds_option(options, "--seconds", SECONDS)
     options.add_symbols_option()
-    options.add_program_option()
-    options.add_library_option()
+    options.add_machine_options()
     return options
 
 

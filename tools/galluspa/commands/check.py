@@ -1,20 +1,16 @@
 """Prints the verdict line of each recording, and explains what is refused."""
 
-import os
 from argparse import Namespace
 from pathlib import Path
 from textwrap import dedent
 
 from galluspa.engine.programcommands import carry_out, files_of
-from galluspa.engine.program import WORDS_REFUSED, Program
+from galluspa.engine.program import WORDS_REFUSED, WORKERS, Program
 from galluspa.process.cli import OK, REFUSED, WRONG, Parser
 from galluspa.process.escapes import printable
 
-MOST_WORKERS = 64
-
 
 def parser() -> Parser:
-    """Returns the command line of this tool."""
     options = Parser(
         dedent(
             """\
@@ -34,7 +30,7 @@ def parser() -> Parser:
     options.add_argument(
         "--workers",
         metavar="N",
-        default=str(min(os.cpu_count() or 1, MOST_WORKERS)),
+        default=str(WORKERS),
         help="replay segments in N threads, from 1 to 64 (default: the number of CPUs)",
     )
     options.add_argument("--cut", metavar="N", help="let a thread take N segments in a row at once, from 1 to 4096 (default 1)")

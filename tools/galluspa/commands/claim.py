@@ -13,7 +13,6 @@ from galluspa.process.cli import Parser, Refused, number, read_file, whole_numbe
 
 
 def parser() -> Parser:
-    """Returns the command line of this tool."""
     options = Parser(
         "Prints a recording with one claim changed: a part of a checkpoint claims another value.",
         "galluspa claim examples/face.orsr --at 1 --set R5=9 > false.orsr",

@@ -31,7 +31,6 @@ STANDARD_INPUT = "-"
 
 
 def parser() -> Parser:
-    """Returns the command line of this tool."""
     options = Parser(
         dedent(
             f"""\
@@ -165,7 +164,7 @@ def main(asked: Namespace) -> int:
     library = Library.find(asked.library, Limit(asked.limit))
     symbols = symbols_for(asked.symbols, asked.recording)
     run = Run.begun(library, read_file(asked.recording))
-    tell_misfit(symbols, run.first_memory)
+    tell_misfit(symbols, run.read.first_memory)
     trace = trace_of(asked)
     compared = compare(run, trace, lambda count: progress(f"the same up to {count:,}"))
     progress("")

@@ -22,7 +22,6 @@ from galluspa.suites.cases import Case, cases_of
 
 
 def parser() -> Parser:
-    """Returns the command line of this tool."""
     options = Parser(
         dedent(
             """\
@@ -44,8 +43,7 @@ def parser() -> Parser:
     options.add_argument("--tables", action="store_true", help="print each table, with how often each item was seen")
     options.add_argument("--page", metavar="FILE", type=Output, help="write the tables as one page (HTML)")
     options.add_limit_option("end after this many seconds, and name the recordings that were not examined by then")
-    options.add_program_option()
-    options.add_library_option()
+    options.add_machine_options()
     return options
 
 

@@ -20,7 +20,7 @@ from galluspa.debugger.navigation import Debugger
 from galluspa.engine.opening import opened
 from galluspa.engine.tracing import add_workers_option
 from galluspa.formats.sessions import COUNTS
-from galluspa.formats.sourcetext import Sources
+from galluspa.formats.sourcetext import Sources, add_directory_option
 from galluspa.process.cli import FAILED, OK, REFUSED, Failed, Parser, Refused, complain, read_file, whole_number
 from galluspa.process.escapes import printable
 from galluspa.process.timelimit import TimeIsUp
@@ -32,7 +32,6 @@ BETWEEN = " \t\n"
 
 
 def parser() -> Parser:
-    """Returns the command line of this tool."""
     listed = "\n".join(f"  {f'{it.name} {it.arguments}'.rstrip():30}  {it.does}" for it in COMMANDS)
     options = Parser(
         dedent(
@@ -67,21 +66,12 @@ def parser() -> Parser:
     )
     options.add_argument("--batch", action="store_true", help="end after these commands, or with status 2 at the first error")
     options.add_argument("--at", metavar="N", type=whole_number(0, COUNTS), default=0, help="the count to begin at (default 0)")
-    options.add_argument(
-        "--directory",
-        metavar="FOLDER",
-        type=Path,
-        action="append",
-        default=[],
-        help="also show sources that are below this folder (default: those below the folder of the symbol file); may be "
-        "used several times",
-    )
+    add_directory_option(options, "sources")
     add_stack_limit_option(options)
     options.add_symbols_option()
     add_workers_option(options)
     options.add_limit_option("end a command after this many seconds")
-    options.add_program_option()
-    options.add_library_option()
+    options.add_machine_options()
     return options
 
 
@@ -222,7 +212,7 @@ def follow(shell: Shell, lines: Iterator[str]) -> int:
             break
         except Refused as refusal:
             complain(str(refusal))
-            status = FAILED if isinstance(refusal, Failed) else REFUSED
+            status = max(status, FAILED if isinstance(refusal, Failed) else REFUSED)
     return status
 
 
@@ -231,9 +221,8 @@ def main(asked: Namespace) -> int:
     patience = Patience(asked.limit)
     it = opened(asked, patience)
     run, at = Timeline(it.run), it.count(asked.at)
-    folders = [*asked.directory, (asked.symbols or asked.recording).parent]
     debugger = Debugger(run, it.symbols, asked.jobs, at, asked.stack_limit)
-    shell = Shell(Commands(debugger, it.program, Sources(folders)), patience)
+    shell = Shell(Commands(debugger, it.program, Sources.of(asked)), patience)
     try:
         carry_out(shell, given_lines(asked))
         if asked.batch and shell.commands.commanded:

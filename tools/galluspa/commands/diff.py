@@ -14,8 +14,8 @@ from galluspa.analysis.explanation import NOT_SOUGHT, table
 from galluspa.analysis.lastwrites import last_write
 from galluspa.analysis.naming import named_row
 from galluspa.engine.library import Library
-from galluspa.engine.program import Program
-from galluspa.engine.tracing import WORKERS, Run
+from galluspa.engine.program import WORKERS, Program
+from galluspa.engine.tracing import Run
 from galluspa.formats.builds import tell_misfit
 from galluspa.formats.recording import Recording
 from galluspa.formats.symbolfiles import symbols_for
@@ -26,7 +26,6 @@ from galluspa.process.timelimit import Limit, TimeIsUp
 
 
 def parser() -> Parser:
-    """Returns the command line of this tool."""
     options = Parser(
         dedent(
             """\
@@ -60,8 +59,7 @@ def parser() -> Parser:
     )
     options.add_symbols_option()
     options.add_limit_option("with --who, end after this many seconds")
-    options.add_program_option()
-    options.add_library_option()
+    options.add_machine_options()
     return options
 
 
@@ -77,15 +75,15 @@ def parts(text: str) -> Set[str]:
 class Writers:
     """Says of a part that differs which instruction wrote it last in each of two recordings."""
 
-    def __init__(self, library: Library, texts: Sequence[bytes], read: Sequence[Recording], names: Sequence[Symbols]) -> None:
-        self._sides = list(zip("AB", texts, read, names, strict=True))
+    def __init__(self, library: Library, read: Sequence[Recording], names: Sequence[Symbols]) -> None:
+        self._sides = list(zip("AB", read, names, strict=True))
         self._library = library
 
     def lines(self, it: Found) -> Iterator[str]:
         """Yields the lines that say so."""
         if it.part is None or not it.checkpoint:
             return
-        for side, text, read, symbols in self._sides:
+        for side, read, symbols in self._sides:
             run = Run(self._library, read, range(it.checkpoint - 1, it.checkpoint))
             first, end = run.counts[it.checkpoint - 1 : it.checkpoint + 1]
             if found := last_write(run, it.part, first, end, WORKERS):
@@ -100,8 +98,7 @@ def main(asked: Namespace) -> int:
     """Prints where two recordings differ; the status says whether they do."""
     limit = Limit(asked.limit)
     program, paths = Program.find(asked.program), (asked.first, asked.second)
-    texts = [read_file(path) for path in paths]
-    one, other = read = [program.decoded(str(path), text) for path, text in zip(paths, texts)]
+    one, other = read = [program.decoded(str(path), read_file(path)) for path in paths]
     symbols = symbols_for(asked.symbols, *paths)
     tell_misfit(symbols, one.first_memory)
     found = list(found_of(one, other, asked.only, asked.all))
@@ -113,7 +110,7 @@ def main(asked: Namespace) -> int:
     rows = [("", *(printable(str(path)) for path in paths)), *(named_row(it.row, symbols) for it in found)]
     first, *lines = table(rows)
     print(first)
-    writers = writers_of(asked, limit, texts, read, symbols) if asked.who else None
+    writers = writers_of(asked, limit, read, symbols) if asked.who else None
     try:
         for it, line in zip(found, lines, strict=True):
             print(line)
@@ -125,8 +122,8 @@ def main(asked: Namespace) -> int:
     return WRONG
 
 
-def writers_of(asked: Namespace, limit: Limit, texts: Sequence[bytes], read: Sequence[Recording], symbols: Symbols) -> Writers:
+def writers_of(asked: Namespace, limit: Limit, read: Sequence[Recording], symbols: Symbols) -> Writers:
     """Returns who wrote, with the names of the symbol file of the options, or of that beside each recording."""
     is_other = asked.symbols is None and asked.second.with_suffix(".sym") != asked.first.with_suffix(".sym")
     other = symbols_for(None, asked.second) if is_other and asked.second.name else symbols
-    return Writers(Library.find(asked.library, limit), texts, read, (symbols, other or symbols))
+    return Writers(Library.find(asked.library, limit), read, (symbols, other or symbols))

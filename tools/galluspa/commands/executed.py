@@ -6,7 +6,6 @@ with its inputs, whatever its checkpoints claim.
 
 import contextlib
 import json
-import os
 import sys
 from argparse import Namespace
 from dataclasses import dataclass
@@ -21,14 +20,14 @@ from galluspa.engine.tracing import Run
 from galluspa.formats.builds import tell_misfit
 from galluspa.formats.symbolfiles import symbols_for
 from galluspa.process.children import in_parallel
-from galluspa.process.cli import OK, WRONG, Output, Parser, Refused, complain, progress, whole_number, with_libraries, write_file
+from galluspa.process.cli import OK, WRONG, Output, Parser, Refused, complain, progress, with_libraries, write_file
 from galluspa.process.escapes import printable
 from galluspa.process.timelimit import Limit, TimeIsUp
 from galluspa.suites.cases import Case, cases_of
+from galluspa.suites.outcomes import add_jobs_option
 
 
 def parser() -> Parser:
-    """Returns the command line of this tool."""
     options = Parser(
         dedent(
             """\
@@ -43,14 +42,7 @@ def parser() -> Parser:
         {OK: "all recordings are counted", WRONG: "a recording is not counted, and a line says why"},
     )
     options.add_argument("suites", metavar="SUITE", type=Path, nargs="+", help="a folder of recordings, or a recording")
-    options.add_argument(
-        "-j",
-        metavar="N",
-        dest="jobs",
-        type=whole_number(1, 1024),
-        default=os.cpu_count() or 1,
-        help="run N recordings at a time (default: the number of CPUs)",
-    )
+    add_jobs_option(options, "run")
     options.add_symbols_option()
     options.add_argument("--json", action="store_true", help="print the counts as JSON")
     options.add_argument(

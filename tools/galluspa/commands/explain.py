@@ -30,7 +30,6 @@ STEPS = 1000
 
 
 def parser() -> Parser:
-    """Returns the command line of this tool."""
     options = Parser(
         dedent(
             """\
@@ -64,8 +63,7 @@ def parser() -> Parser:
     )
     options.add_symbols_option()
     options.add_limit_option("end after this many seconds, with what was found by then")
-    options.add_program_option()
-    options.add_library_option()
+    options.add_machine_options()
     return options
 
 

@@ -24,8 +24,7 @@ from galluspa.process.cli import (
     progress,
     read_file,
     whole_number,
-    write_bytes,
-    write_file,
+    write_output,
 )
 from galluspa.process.timelimit import Limit, TimeIsUp
 
@@ -33,7 +32,6 @@ FRAMES, MOST_FRAMES = 1000, 10_000
 
 
 def parser() -> Parser:
-    """Returns the command line of this tool."""
     options = Parser(
         dedent(
             f"""\
@@ -79,8 +77,7 @@ def parser() -> Parser:
         "-o", "--output", metavar="FILE", type=Output, help="write the film or the picture into a file instead of standard output"
     )
     options.add_limit_option("end after this many seconds, with the frames that there are by then")
-    options.add_program_option()
-    options.add_library_option()
+    options.add_machine_options()
     return options
 
 
@@ -102,14 +99,6 @@ def filmed(film: Film, shots: Iterator[Shot], most: int, last: int) -> str:
     return ""
 
 
-def written(asked: Namespace, png: bytes) -> None:
-    """Writes a film or a picture to where it is to go."""
-    if asked.output:
-        write_file(asked.output, png)
-    else:
-        write_bytes(png)
-
-
 def main(asked: Namespace) -> int:
     """Makes the film, or the picture of one checkpoint."""
     limit = Limit(asked.limit)
@@ -118,7 +107,7 @@ def main(asked: Namespace) -> int:
     if asked.at is not None:
         if asked.at >= len(read.checkpoints):
             raise Refused(f"{asked.recording}: no checkpoint {asked.at}: the last is {len(read.checkpoints) - 1}")
-        written(asked, picture(program.screen(text, asked.at).output))
+        write_output(asked.output, picture(program.screen(text, asked.at).output))
         return OK
     last = read.checkpoints[-1].count
     if asked.every and asked.every > last:
@@ -130,7 +119,7 @@ def main(asked: Namespace) -> int:
     film = Film(asked.ms)
     cut = filmed(film, shots, asked.frames, last)
     progress("")
-    written(asked, film.png())
+    write_output(asked.output, film.png())
     if cut:
         complain(cut)
     return OK

@@ -14,6 +14,7 @@ from textwrap import dedent
 from galluspa.analysis.conditions import CONDITIONS, conditions_of
 from galluspa.analysis.search import Hit, Search
 from galluspa.engine.library import Library
+from galluspa.engine.opening import count_asked
 from galluspa.engine.program import Program
 from galluspa.engine.tracing import Run, add_workers_option
 from galluspa.formats.builds import tell_misfit
@@ -28,7 +29,6 @@ MOST = 1000
 
 
 def parser() -> Parser:
-    """The command line of this tool."""
     options = Parser(
         dedent(
             """\
@@ -60,8 +60,7 @@ def parser() -> Parser:
     options.add_argument("--json", action="store_true", help="print one JSON object per line")
     add_workers_option(options)
     options.add_limit_option("end after this many seconds, and say how far that was")
-    options.add_program_option()
-    options.add_library_option()
+    options.add_machine_options()
     return options
 
 
@@ -72,14 +71,10 @@ def search_of(asked: Namespace, symbols: Symbols) -> Search:
         raise Refused("use --most with --all")
     limit = Limit(asked.limit)
     it = Run.checked(Library.find(asked.library, limit), Program.find(asked.program, limit), asked.recording)
-    tell_misfit(symbols, it.first_memory)
+    tell_misfit(symbols, it.read.first_memory)
     last = it.counts[-1]
-    to = last if asked.to is None else asked.to
-    if to > last:
-        raise Refused(f"--to {to} is after the last checkpoint, which is at {last}")
-    if asked.first > last:
-        raise Refused(f"--from {asked.first} is after the last checkpoint, which is at {last}")
-    if asked.first == last:
+    to = count_asked("--to", asked.to, last)
+    if count_asked("--from", asked.first, last) == last:
         raise Refused(f"--from {asked.first} is at the last checkpoint: give an earlier count")
     if asked.first >= to:
         raise Refused(f"--to {to} must come after --from {asked.first}")

@@ -40,7 +40,7 @@ from galluspa.process.cli import (
     with_libraries,
     write_file,
 )
-from galluspa.process.escapes import for_tap
+from galluspa.process.escapes import for_tap, printable
 from galluspa.process.temporary import temporary_folder
 from galluspa.process.timelimit import Limit
 
@@ -83,7 +83,6 @@ class Result:
 
 
 def parser() -> Parser:
-    """Returns the command line of this tool."""
     options = Parser(
         dedent(
             f"""\
@@ -211,8 +210,8 @@ def leave(finding: Finding, folder: Path) -> Path:
     for name, content in finding.files().items():
         write_file(own / name, content)
     try:
-        page = with_libraries("galluspa.output.pages").templates().get_template("finding.html.j2")
-        write_file(own / "difference.html", page.render(it=finding).encode())
+        page = with_libraries("galluspa.output.pages").generated("finding.html.j2", it=finding)
+        write_file(own / "difference.html", "".join(page).encode())
     except Refused as refusal:
         if isinstance(refusal, Failed):
             raise
@@ -224,7 +223,8 @@ def text(result: Result) -> Iterator[str]:
     """Yields what was found, and what was exercised."""
     for finding, folder in result.found:
         yield from finding.shown()
-        yield from ("", f"{folder} has it: {', '.join(sorted(it.name for it in folder.iterdir()))}", "")
+        there = ", ".join(sorted(it.name for it in folder.iterdir()))
+        yield from ("", printable(f"{folder} has it: {there}"), "")
     yield result.summary
     if not result.found:
         measured = f"exercised, as {result.tally.measured:,} of these sessions were measured:"

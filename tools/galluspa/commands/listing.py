@@ -6,8 +6,9 @@ from argparse import Namespace
 from collections.abc import Iterator
 from pathlib import Path
 
+from galluspa.analysis.naming import with_remark
 from galluspa.assembler.mnemonics import source_of
-from galluspa.engine.program import REFUSED, Program
+from galluspa.engine.program import Program
 from galluspa.formats import recording
 from galluspa.formats.builds import tell_misfit
 from galluspa.formats.instructions import branches_to, instruction, moved
@@ -23,7 +24,6 @@ LEAST_NAMED, MOST_LABELS = 0x100, 20
 
 
 def parser() -> Parser:
-    """Returns the command line of this tool."""
     options = Parser(
         "Lists instructions: the number of each word, the word, its mnemonic, and what it does.",
         "galluspa listing --words 8 --markdown examples/hello.json",
@@ -54,15 +54,11 @@ def parser() -> Parser:
     return options
 
 
-def recording_of(program: Program, path: Path) -> Recording:
-    """Returns the recording in a file, or that of the initial state of the session in it."""
-    text = read_file(path)
+def recording_of(program: Program, path: Path, text: bytes) -> Recording:
+    """Returns the recording in a file of these bytes, or that of the initial state of the session in it."""
     if text.startswith(b"ORSR"):
         return program.decoded(str(path), text)
-    answer = program.record(first_state_alone(text))
-    if answer.status == REFUSED:
-        raise Refused(f"{path}: neither a recording nor a session: {answer.line}")
-    return recording.read(answer.output)
+    return recording.read(program.recorded(first_state_alone(text), f"{path}: neither a recording nor a session: "))
 
 
 def first_state_alone(text: bytes) -> bytes:
@@ -88,7 +84,7 @@ def line_of(at: int, word: int, is_markdown: bool, remark: str = "") -> str:
     if is_markdown:
         named = f"; {_for_markdown(remark)}" if remark else ""
         return f"| {at} | `{word:08X}` | `{decoded.mnemonic}` | {decoded.meaning}{named} |"
-    return f"{at:6}  {word:08X}  {decoded.mnemonic:20}  {decoded.meaning}{f'  ; {remark}' if remark else ''}"
+    return with_remark(f"{at:6}  {word:08X}  {decoded.mnemonic:20}  {decoded.meaning}", remark)
 
 
 def _for_markdown(text: str) -> str:
@@ -121,7 +117,7 @@ def listed(symbols: Symbols, words: Iterator[tuple[int, int]], asked: Namespace)
         yield from (f"; {it}" for it in labels) if asked.source else labels
         remark = remark_on(symbols, at, word, before) if symbols else ""
         if asked.source:
-            yield f"        {source_of(word)}{f'  ; {remark}' if remark else ''}"
+            yield with_remark(f"        {source_of(word)}", remark)
         else:
             yield line_of(at, word, asked.markdown, remark)
         before = word
@@ -130,7 +126,7 @@ def listed(symbols: Symbols, words: Iterator[tuple[int, int]], asked: Namespace)
 def main(asked: Namespace) -> int:
     """Lists the words of a session or a recording."""
     symbols = symbols_for(asked.symbols, asked.file)
-    read = recording_of(Program.find(asked.program), asked.file)
+    read = recording_of(Program.find(asked.program), asked.file, read_file(asked.file))
     tell_misfit(symbols, read.first_memory)
     if asked.at >= len(read.checkpoints):
         raise Refused(f"{asked.file}: no checkpoint {asked.at}")

@@ -1,12 +1,13 @@
 """Opens the live machine in a browser, perhaps with a recording or a session."""
 
+import shutil
 import tempfile
 import webbrowser
 from argparse import Namespace
 from pathlib import Path
 from textwrap import dedent
 
-from galluspa.engine.program import ACCEPTED, REFUSED, Program
+from galluspa.engine.program import REFUSED, Program
 from galluspa.process import paths
 from galluspa.process.cli import OK, Output, Parser, Refused, read_file, with_libraries, write_file
 from galluspa.process.escapes import printable
@@ -14,7 +15,6 @@ from galluspa.process.timelimit import Limit
 
 
 def parser() -> Parser:
-    """Returns the command line of this tool."""
     options = Parser(
         dedent(
             """\
@@ -36,17 +36,21 @@ def page_of(asked: Namespace) -> Path:
     """Writes the page of a file, and returns where it is."""
     program, text = Program.find(asked.program, Limit(asked.limit)), read_file(asked.file)
     if not text.startswith(b"ORSR"):
-        answer = program.record(text)
-        if answer.status != ACCEPTED:
-            raise Refused(f"{asked.file}: neither a recording nor a session: {answer.line}")
-        text = answer.output
+        text = program.recorded(text, f"{asked.file}: neither a recording nor a session: ")
     answer = program.check(text)
     if answer.status == REFUSED:
         raise Refused(f"{asked.file}: {answer.line}")
     content = "".join(with_libraries("galluspa.output.live").page(printable(asked.file.name), text, answer.line)).encode()
-    page = Path(asked.output or Path(tempfile.mkdtemp(prefix="galluspa-"), f"{asked.file.stem}.html"))
-    write_file(page, content)
-    return page.resolve()
+    if asked.output:
+        write_file(asked.output, content)
+        return Path(asked.output).resolve()
+    folder = Path(tempfile.mkdtemp(prefix="galluspa-"))
+    try:
+        write_file(folder / f"{asked.file.stem}.html", content)
+    except BaseException:
+        shutil.rmtree(folder, ignore_errors=True)
+        raise
+    return folder.resolve() / f"{asked.file.stem}.html"
 
 
 def main(asked: Namespace) -> int:

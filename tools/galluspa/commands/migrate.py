@@ -7,7 +7,6 @@ from galluspa.process.cli import OK, REFUSED, Parser
 
 
 def parser() -> Parser:
-    """Returns the command line of this tool."""
     options = programcommands.parser(
         "Prints a recording in the current version of the format, with the same verdict line. It replays nothing.",
         "galluspa migrate examples/face-version-1.orsr -o face.orsr",

@@ -11,7 +11,6 @@ from galluspa.process.cli import Parser, Refused, read_file, whole_number, write
 
 
 def parser() -> Parser:
-    """Returns the command line of this tool."""
     options = Parser(
         dedent(
             """\

@@ -24,7 +24,6 @@ from galluspa.process.timelimit import Limit
 
 
 def parser() -> Parser:
-    """Returns the command line of this tool."""
     options = Parser(
         dedent(
             """\
@@ -73,7 +72,7 @@ def profiled(library: Library, path: Path, asked: Namespace, symbols: Symbols) -
         run = Run.begun(library, read_file(path))
     except Refused as refusal:
         raise type(refusal)(f"{path}: {str(refusal).removeprefix(f'{path}: ')}") from refusal
-    tell_misfit(symbols, run.first_memory)
+    tell_misfit(symbols, run.read.first_memory)
     last = run.counts[-1]
     to = last if asked.to is None else asked.to
     if asked.first > last:

@@ -7,7 +7,6 @@ from galluspa.process.cli import OK, REFUSED, Parser
 
 
 def parser() -> Parser:
-    """Returns the command line of this tool."""
     return programcommands.parser(
         "Runs a session (JSON) on the machine, and prints its recording. Lines on standard error explain a refusal.",
         "galluspa record examples/hello.json -o hello.orsr",

@@ -19,7 +19,6 @@ LONGEST_PAGE = 1 << 28
 
 
 def parser() -> Parser:
-    """Returns the command line of this tool."""
     options = Parser(
         dedent(
             """\

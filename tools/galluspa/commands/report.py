@@ -34,7 +34,6 @@ from galluspa.process.timelimit import Limit
 
 
 def parser() -> Parser:
-    """The command line of this tool."""
     options = Parser(
         "Prints one self-contained page (HTML) of a recording: its verdict line, checkpoints, screens " "and inputs.",
         "galluspa report examples/face.orsr > face.html",
@@ -76,8 +75,7 @@ def parser() -> Parser:
     )
     options.add_symbols_option()
     options.add_limit_option("end after this many seconds, with what was found by then")
-    options.add_program_option()
-    options.add_library_option()
+    options.add_machine_options()
     return options
 
 

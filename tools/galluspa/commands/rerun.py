@@ -19,7 +19,7 @@ from galluspa.formats.scripts import STILL
 from galluspa.formats.sessions import COUNTS
 from galluspa.formats.symbolfiles import symbols_for
 from galluspa.process.children import in_parallel
-from galluspa.process.cli import OK, WRONG, Parser, Refused, whole_number, with_libraries, write_file
+from galluspa.process.cli import OK, WRONG, Parser, Refused, make_folder, whole_number, with_libraries, write_file
 from galluspa.process.escapes import printable
 from galluspa.process.timelimit import TimeIsUp
 from galluspa.suites import approvals, storedsessions
@@ -32,7 +32,6 @@ from galluspa.suites.storedsessions import APPROVED, AS_APPROVED, Shelf, Wanted
 
 
 def parser() -> Parser:
-    """Returns the command line of this tool."""
     options = Parser(
         dedent(
             """\
@@ -96,8 +95,7 @@ def parser() -> Parser:
     options.add_limit_option("end the run of a session after this many seconds; it is then not as approved")
     add_output_options(options, "each session with the screens that were approved, those of now, and what differs")
     options.add_symbols_option()
-    options.add_program_option()
-    options.add_library_option()
+    options.add_machine_options()
     return options
 
 
@@ -137,10 +135,7 @@ class Reruns:
             return
         folder = self._judge.shelf.folder
         path = self._asked.recordings / case.path.relative_to(folder).with_name(f"{approvals.stem_of(case.path)}.orsr")
-        try:
-            path.parent.mkdir(parents=True, exist_ok=True)
-        except OSError as error:
-            raise Refused(f"{path.parent}: {error.strerror}") from error
+        make_folder(path.parent)
         write_file(path, ran.text)
 
 

@@ -7,7 +7,6 @@ from galluspa.process.cli import OK, REFUSED, Parser
 
 
 def parser() -> Parser:
-    """Returns the command line of this tool."""
     options = programcommands.parser(
         "Prints the screen that a checkpoint claims, as a binary PBM. It does not test whether the claim is true:\n"
         "`galluspa check` does. `galluspa film --at K` makes a PNG of the screen.",

@@ -20,7 +20,6 @@ from galluspa.process.cli import Parser, Refused, complain, number, read_file, w
 
 
 def parser() -> Parser:
-    """Returns the command line of this tool."""
     options = Parser(
         dedent(
             """\
@@ -79,8 +78,7 @@ def parser() -> Parser:
     )
     options.add_argument("--of", metavar="RECORDING", type=Path, help="take initial state, inputs and counts from a recording")
     options.add_symbols_option()
-    options.add_program_option()
-    options.add_library_option()
+    options.add_machine_options()
     options.add_limit_option("look for the end of the run for this many seconds")
     return options
 

@@ -6,7 +6,6 @@ wrong is printed, or written to a file. The exit status is 0 if there is one, an
 """
 
 import shlex
-import sys
 from argparse import Namespace
 from collections.abc import Sequence
 from dataclasses import dataclass
@@ -22,7 +21,7 @@ from galluspa.engine.library import Library
 from galluspa.engine.program import Program
 from galluspa.formats import recording, sessions
 from galluspa.formats.sessions import COUNTS
-from galluspa.process.cli import OK, Output, Parser, Refused, complain, progress, whole_number, write_file
+from galluspa.process.cli import OK, Output, Parser, Refused, complain, progress, whole_number, write_output
 from galluspa.process.temporary import temporary_folder
 from galluspa.process.timelimit import Limit, TimeIsUp
 
@@ -78,7 +77,6 @@ def size_of(trial: Trial) -> str:
 
 
 def parser() -> Parser:
-    """Returns the command line of this tool."""
     options = Parser(
         dedent(
             f"""\
@@ -99,8 +97,7 @@ def parser() -> Parser:
     )
     add_seconds_option(options, "--answer-seconds", ANSWER_SECONDS)
     options.add_limit_option("end after this many seconds with the smallest session until then")
-    options.add_program_option()
-    options.add_library_option()
+    options.add_machine_options()
     return options
 
 
@@ -131,10 +128,6 @@ def main(asked: Namespace) -> int:
             raise Refused(f"{asked.session}: COMMAND does not say that it is wrong, by a status from 1 to {LAST_WRONG}")
         over = shrunk(question, trial)
     progress("")
-    text = question.smallest.session().text()
     complain(f"{size_of(trial)} → {size_of(question.smallest)}, in {question.asked:,} runs" + f"; {over}" * bool(over))
-    if asked.output:
-        write_file(asked.output, text.encode())
-    else:
-        sys.stdout.write(text)
+    write_output(asked.output, question.smallest.session().text())
     return OK

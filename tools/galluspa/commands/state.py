@@ -25,7 +25,6 @@ from galluspa.process.timelimit import Limit, TimeIsUp
 
 
 def parser() -> Parser:
-    """Returns the command line of this tool."""
     options = Parser(
         dedent(
             """\
@@ -60,8 +59,7 @@ def parser() -> Parser:
     options.add_argument("--json", action="store_true", help="print one JSON object")
     options.add_symbols_option()
     options.add_limit_option("end after this many seconds")
-    options.add_program_option()
-    options.add_library_option()
+    options.add_machine_options()
     return options
 
 

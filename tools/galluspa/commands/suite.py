@@ -22,7 +22,6 @@ from galluspa.suites.shards import Merged, Shard, longest_first
 
 
 def parser() -> Parser:
-    """Returns the command line of this tool."""
     options = Parser(
         dedent(
             """\

@@ -1,25 +1,23 @@
 """Makes a symbol file of the list of loaded modules that Project Oberon (2013) keeps in memory."""
 
-import sys
 from argparse import Namespace
 from pathlib import Path
 from textwrap import dedent
 
-from galluspa.commands.listing import first_state_alone
+from galluspa.commands.listing import recording_of
 from galluspa.engine.library import Library
-from galluspa.engine.program import REFUSED, Program
+from galluspa.engine.opening import count_asked
+from galluspa.engine.program import Program
 from galluspa.engine.tracing import Run
-from galluspa.formats import recording
 from galluspa.formats.oberonmodules import symbols_of
-from galluspa.formats.recording import MEMORY_BYTES, PAGE_BYTES, PLACES
+from galluspa.formats.recording import MEMORY_BYTES
 from galluspa.formats.sessions import COUNTS
 from galluspa.formats.symbolfiles import written
-from galluspa.process.cli import OK, Output, Parser, Refused, read_file, whole_number, write_file
+from galluspa.process.cli import OK, Output, Parser, Refused, read_file, whole_number, write_output
 from galluspa.process.timelimit import Limit
 
 
 def parser() -> Parser:
-    """Returns the command line of this tool."""
     options = Parser(
         dedent(
             """\
@@ -41,8 +39,7 @@ def parser() -> Parser:
     )
     options.add_argument("-o", "--output", metavar="FILE", type=Output, help="write the symbol file, and do not print it")
     options.add_limit_option("end after this many seconds")
-    options.add_program_option()
-    options.add_library_option()
+    options.add_machine_options()
     return options
 
 
@@ -50,28 +47,21 @@ def memory_of(asked: Namespace) -> bytes:
     """Returns all bytes of the memory that the options name."""
     text = read_file(asked.oberon)
     if text.startswith(b"ORSR"):
-        return _recorded(asked)
+        return _recorded(asked, text)
     if asked.at is not None:
         raise Refused(f"--at {asked.at}: {asked.oberon} is not a recording")
     if text.lstrip().startswith(b"{"):
-        answer = Program.find(asked.program, Limit(asked.limit)).record(first_state_alone(text))
-        if answer.status == REFUSED:
-            raise Refused(f"{asked.oberon}: neither a recording nor a session: {answer.line}")
-        read = recording.read(answer.output)
-        return read.memory(read.checkpoints[0], 0, PLACES * PAGE_BYTES)
+        return recording_of(Program.find(asked.program, Limit(asked.limit)), asked.oberon, text).first_memory()
     if len(text) > MEMORY_BYTES:
         raise Refused(f"{asked.oberon}: an image has at most {MEMORY_BYTES:,} bytes")
     return text.ljust(MEMORY_BYTES, b"\0")
 
 
-def _recorded(asked: Namespace) -> bytes:
+def _recorded(asked: Namespace, text: bytes) -> bytes:
     """Returns the memory of the machine in a recording's run."""
     limit = Limit(asked.limit)
-    run = Run.checked(Library.find(asked.library, limit), Program.find(asked.program, limit), asked.oberon)
-    at = run.counts[-1] if asked.at is None else asked.at
-    if at > run.counts[-1]:
-        raise Refused(f"--at {at} is after the last checkpoint, which is at {run.counts[-1]}")
-    return run.machine(at).memory()
+    run = Run.checked(Library.find(asked.library, limit), Program.find(asked.program, limit), asked.oberon, text)
+    return run.machine(count_asked("--at", asked.at, run.counts[-1])).memory()
 
 
 def main(asked: Namespace) -> int:
@@ -81,8 +71,5 @@ def main(asked: Namespace) -> int:
     except Refused as refusal:
         named = str(refusal) if str(asked.oberon) in str(refusal) else f"{asked.oberon}: {refusal}"
         raise type(refusal)(named) from refusal
-    if asked.output:
-        write_file(asked.output, text.encode())
-    else:
-        sys.stdout.write(text)
+    write_output(asked.output, text)
     return OK

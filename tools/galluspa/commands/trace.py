@@ -17,8 +17,8 @@ from galluspa.analysis.conditions import CONDITIONS, conditions_of
 from galluspa.analysis.search import Search
 from galluspa.engine.library import Library
 from galluspa.engine.machine import Machine
-from galluspa.engine.program import Program
-from galluspa.engine.tracing import WORKERS, Run
+from galluspa.engine.program import WORKERS, Program
+from galluspa.engine.tracing import Run
 from galluspa.formats.builds import tell_misfit
 from galluspa.formats.recording import STOPS
 from galluspa.formats.sessions import CHECKPOINTS, COUNTS
@@ -32,7 +32,6 @@ STEPS = 20
 
 
 def parser() -> Parser:
-    """Returns the command line of this tool."""
     options = Parser(
         dedent(
             """\
@@ -90,8 +89,7 @@ def parser() -> Parser:
         help=f"write a record of {RECORD.size} bytes for each instruction, for other programs; docs/debugging.md " "has its fields",
     )
     options.add_limit_option("end after this many seconds, and say how far that was")
-    options.add_program_option()
-    options.add_library_option()
+    options.add_machine_options()
     return options
 
 
@@ -165,7 +163,7 @@ def main(asked: Namespace) -> int:
     symbols = symbols_for(asked.symbols, asked.recording)
     conditions = conditions_of(asked.until, symbols) if asked.until else []
     run = run_of(asked, Limit(asked.limit))
-    tell_misfit(symbols, run.first_memory)
+    tell_misfit(symbols, run.read.first_memory)
     to = end_of(asked, run)
     if conditions:
         return search(asked, run, Search(run, conditions, asked.first, to, WORKERS), symbols)

@@ -14,13 +14,12 @@ from galluspa.analysis.writers import LINKS, MOST_LINKS, origins_asked
 from galluspa.engine.opening import opened
 from galluspa.engine.tracing import add_workers_option
 from galluspa.formats.sessions import COUNTS
-from galluspa.formats.sourcetext import Sources
+from galluspa.formats.sourcetext import Sources, add_directory_option
 from galluspa.process.cli import OK, Failed, Parser, whole_number
 from galluspa.process.timelimit import Limit, TimeIsUp
 
 
 def parser() -> Parser:
-    """Returns the command line of this tool."""
     options = Parser(
         dedent(
             """\
@@ -55,20 +54,11 @@ def parser() -> Parser:
         help=f"follow at most N instructions (default {LINKS})",
     )
     options.add_argument("--json", action="store_true", help="print one JSON object")
-    options.add_argument(
-        "--directory",
-        metavar="FOLDER",
-        type=Path,
-        action="append",
-        default=[],
-        help="also show lines of sources that are below this folder (default: those below the folder of the symbol file); may be "
-        "used several times",
-    )
+    add_directory_option(options, "lines of sources")
     options.add_symbols_option()
     add_workers_option(options)
     options.add_limit_option("end after this many seconds")
-    options.add_program_option()
-    options.add_library_option()
+    options.add_machine_options()
     return options
 
 
@@ -83,6 +73,5 @@ def main(asked: Namespace) -> int:
     if asked.json:
         print(json.dumps({"count": count, "values": objects(values, symbols)}))
     else:
-        folders = [*asked.directory, (asked.symbols or asked.recording).parent]
-        print("\n".join(lines(values, symbols, Sources(folders))))
+        print("\n".join(lines(values, symbols, Sources.of(asked))))
     return OK

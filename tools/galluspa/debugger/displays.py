@@ -11,7 +11,7 @@ from galluspa.analysis.expressiontexts import Parser, literal
 from galluspa.analysis.naming import with_remark
 from galluspa.debugger.base import Base
 from galluspa.formats.recording import MEMORY_BYTES
-from galluspa.formats.symbols import CODE, CONSTANT, DATA, Symbols, shown
+from galluspa.formats.symbols import CONSTANT, DATA, Symbols, shown
 from galluspa.process.cli import Refused
 
 # The formats of values, as gdb has them.
@@ -55,9 +55,9 @@ class Displays(Base):
             return
         name = _name(node, value, symbols)
         if kind:
-            yield with_remark(written(value, kind, 4, symbols).strip(), [name] * (bool(name) and kind != "a"))
+            yield with_remark(written(value, kind, 4, symbols).strip(), "" if kind == "a" else name)
         else:
-            yield with_remark(f"{value:08X}  {signed(value)}", [name] * bool(name))
+            yield with_remark(f"{value:08X}  {signed(value)}", name)
 
     def display(self, text: str) -> Iterator[str]:
         """Shows an expression at each pause."""
@@ -94,23 +94,16 @@ class Displays(Base):
             self.expressions.pop(number, None)
         yield from ()
 
-    def display_list(self, text: str) -> Iterator[str]:
+    def display_list(self) -> Iterator[str]:
         """Yields the expressions that are displayed."""
         for number, (kind, expression) in self.expressions.items():
             yield f"{number:>3}  {f'/{kind} ' if kind else ''}{shown(expression)}"
         if not self.expressions:
             yield "no expressions are displayed"
 
-    def functions(self, pattern: str) -> Iterator[str]:
-        """Yields the names of code, with their lines."""
-        yield from self._names(CODE, pattern)
-
-    def variables(self, pattern: str) -> Iterator[str]:
-        """Yields the names of data, with their words."""
-        yield from self._names(DATA, pattern)
-
-    def _names(self, kind: str, pattern: str) -> Iterator[str]:
-        """Yields the names in which a pattern is, whatever the case of its letters; a star in it stands for any text."""
+    def names_of(self, kind: str, pattern: str) -> Iterator[str]:
+        """Yields the names of code with their lines, or those of data with their words, in which a pattern is, whatever the case of
+        its letters; a star in it stands for any text."""
         if len(pattern) > MOST_PATTERN:
             raise Refused(f"a PATTERN has at most {MOST_PATTERN} characters")
         symbols, machine, wanted = self.debugger.symbols, self.debugger.machine, pattern.lower().split("*")
@@ -174,19 +167,16 @@ def _is_address(node: Node) -> bool:
 
 
 def string_line(memory: bytes, address: int) -> str:
-    """Returns the string at an address."""
-    return f'{address:06X}  "{shown_bytes(string_at(memory, address))}"'
+    """Returns the string at an address: of other bytes than printable ASCII characters, a backslash and two digits."""
+    content = string_at(memory, address)
+    shown_bytes = (chr(byte) if 0x20 <= byte < 0x7F and byte not in b'\\"' else f"\\{byte:02x}" for byte in content)
+    return f'{address:06X}  "{"".join(shown_bytes)}"'
 
 
 def string_at(memory: bytes, address: int) -> bytes:
     """Returns the bytes of memory from an address on, before the next one that is 0, but not more than are shown."""
     end = memory.find(b"\0", address)
     return memory[address : min(address + STRING, end if end >= 0 else MEMORY_BYTES)]
-
-
-def shown_bytes(content: bytes) -> str:
-    """Returns bytes as printable ASCII characters; any other byte as a backslash and two digits."""
-    return "".join(chr(byte) if 0x20 <= byte < 0x7F and byte not in b'\\"' else f"\\{byte:02x}" for byte in content)
 
 
 def written(value: int, kind: str, size: int, symbols: Symbols) -> str:
@@ -200,5 +190,5 @@ def written(value: int, kind: str, size: int, symbols: Symbols) -> str:
     if kind == "t":
         return f"{value:0{8 * size}b}"
     if kind == "a":
-        return with_remark(f"{value:08X}", [*filter(None, [symbols.text(value)])])
+        return with_remark(f"{value:08X}", symbols.text(value))
     return f"{value:>10}"

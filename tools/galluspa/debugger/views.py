@@ -18,7 +18,7 @@ from galluspa.debugger.displays import Displays, string_at, string_line, written
 from galluspa.debugger.listings import Listings
 from galluspa.formats import states
 from galluspa.formats.recording import MEMORY_BYTES, WORDS, Event
-from galluspa.formats.symbols import shown
+from galluspa.formats.symbols import CODE, DATA, shown
 from galluspa.process.cli import Refused, number, write_file
 
 DISASSEMBLED, INPUTS = 8, 10
@@ -55,8 +55,10 @@ class Views(Displays, Listings):
             return inspection.stack_lines(machine, STACK_WORDS, symbols, debugger.stack)
         if meant[0] == "breakpoints":
             return point_lines(debugger.points.values())
-        if shows := {"display": self.display_list, "functions": self.functions, "variables": self.variables}.get(meant[0]):
-            return shows(rest.strip())
+        if meant[0] == "display":
+            return self.display_list()
+        if kind := {"functions": CODE, "variables": DATA}.get(meant[0]):
+            return self.names_of(kind, rest.strip())
         if meant[0] == "inputs":
             return self._inputs()
         address = address_at(rest or "PC", moment_of(machine), symbols)
@@ -104,7 +106,7 @@ class Views(Displays, Listings):
             places = range(first, min(first + size * across, end), size)
             values = (int.from_bytes(memory[at : at + size], "little") for at in places)
             row = "  ".join(written(value, kind, size, self.debugger.symbols) for value in values)
-            yield with_remark(f"{first:06X}  {row}", [*filter(None, [self.debugger.symbols.text(first)])])
+            yield with_remark(f"{first:06X}  {row}", self.debugger.symbols.text(first))
 
     def _strings(self, address: int, units: int) -> Iterator[str]:
         memory = self.debugger.machine.memory()

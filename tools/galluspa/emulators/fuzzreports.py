@@ -5,16 +5,16 @@ from collections.abc import Iterator, Sequence
 from dataclasses import dataclass
 from itertools import islice
 
-from galluspa.analysis.coveragetables import is_move, is_operation, move_of
+from galluspa.analysis.coveragetables import move_of
 from galluspa.assembler.mnemonics import source_of
 from galluspa.emulators.instructionrules import rules_of
-from galluspa.emulators.reduction import ended
+from galluspa.emulators.reduction import machine_of
 from galluspa.emulators.trialruns import TrialRunner, Parting
 from galluspa.emulators.trials import Trial
 from galluspa.engine.machine import Machine
 from galluspa.engine.tracing import Run, differing, lines
 from galluspa.formats import recording, states
-from galluspa.formats.instructions import CONDITIONS, OPERATIONS, instruction
+from galluspa.formats.instructions import CONDITIONS, OPERATIONS, instruction, is_move, is_operation
 from galluspa.formats.recording import Recording
 
 WORDS_SHOWN = 16
@@ -106,7 +106,6 @@ def _source(read: Recording, trial: Trial) -> Iterator[str]:
 
 
 def _columns(rows: Sequence[Row]) -> Iterator[str]:
-    """Yields rows in columns."""
     widths = [max(len(row[column]) for row in rows) for column in range(3)]
     for row in rows:
         yield "  ".join([*(f"{cell:{width}}" for cell, width in zip(row, widths)), row[3]]).rstrip()
@@ -119,7 +118,7 @@ def finding_of(runner: TrialRunner, trial: Trial, parting: Parting, word: int | 
     run = Run(runner.library, read, range(1))
     steps = list(run.steps(run.machine(0), trial.count))
     shown, places = [line for step in steps for line in lines(step)], {step.before.pc for step in steps}
-    before = runner.machine(ended(trial, trial.count - 1))
+    before = machine_of(runner.library, trial, trial.count - 1)
     return Finding(origin, trial, word, parting.names[0], shown, len(places), list(_rows(before, parting)), text)
 
 

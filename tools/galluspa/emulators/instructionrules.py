@@ -2,8 +2,7 @@
 
 from collections.abc import Iterator
 
-from galluspa.analysis.coveragetables import bit, is_move, is_operation
-from galluspa.formats.instructions import NEVER, OPERATIONS
+from galluspa.formats.instructions import NEVER, OPERATIONS, bit, is_move, is_operation
 
 RESULTS = {
     "LSL": "B shifted left by C1 mod 32, zeros come in",

@@ -135,13 +135,6 @@ class TrialRunner:
         self.next_word = self._machine.words[pc] if pc < WORDS else None
         return sent
 
-    def machine(self, trial: Trial) -> Machine:
-        """Returns the proved machine at the end of a trial."""
-        self.run(trial)
-        machine = self._machine.copy()
-        self._memory[:] = ZEROS
-        return machine
-
     def _is_same(self, answer: Answer, sent: Sent) -> bool:
         """Returns whether all parts are the same; then the memory is that of zeros again."""
         if answer.sent != sent.first or answer.state != self._raw[COUNT_BYTES:]:

@@ -6,7 +6,7 @@ from dataclasses import dataclass, replace
 
 from galluspa.formats.devicewords import RECEIVED
 from galluspa.formats.recording import NO_PAGE, PAGE_BYTES, Checkpoint, Event
-from galluspa.formats.sessions import KIND_NUMBERS, Session
+from galluspa.formats.sessions import KIND_NUMBERS, Session, numbers_of
 
 # What a kept emulator is sent of a trial: its number, how many instructions, inputs and pages; and the parts of its state,
 # which are those of an answer.
@@ -43,11 +43,7 @@ class Trial:
             registers=tuple(session.registers),
             pages={slot: page for slot, page in pages if page != NO_PAGE},
             count=count,
-            h=session.h,
-            pc=session.pc,
-            flags=session.flags,
-            rate=session.rate,
-            phase=session.phase,
+            **numbers_of(session),
             inputs=[event for event in session.inputs if event.count < count],
         )
 
@@ -55,11 +51,7 @@ class Trial:
         """Returns the session, with a checkpoint at its end."""
         return Session(
             registers=list(self.registers),
-            h=self.h,
-            pc=self.pc,
-            flags=self.flags,
-            rate=self.rate,
-            phase=self.phase,
+            **numbers_of(self),
             memory=self.memory(),
             inputs=list(self.inputs),
             checkpoints=[self.count] if self.count else [],
@@ -85,11 +77,7 @@ class Trial:
         due = [replace(event, count=event.count - state.count) for event in self.inputs if event.count >= state.count]
         session = Session(
             registers=list(state.registers),
-            h=state.h,
-            pc=state.pc,
-            flags=state.flags,
-            rate=state.rate,
-            phase=state.phase,
+            **numbers_of(state),
             memory=memory,
             inputs=[*(Event(0, KIND_NUMBERS[name], value) for name, value in first), *due],
         )

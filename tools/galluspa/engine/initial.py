@@ -3,7 +3,7 @@
 import json
 from pathlib import Path
 
-from galluspa.engine.program import REFUSED, Program
+from galluspa.engine.program import Program
 from galluspa.formats.sessionfaults import parsed
 from galluspa.formats.sessions import CHECKPOINTS, COUNTS
 from galluspa.process.cli import Refused, read_file
@@ -23,20 +23,17 @@ def _begun(program: Program, path: Path) -> tuple[bytes, int]:
     text = read_file(path)
     if text.startswith(b"ORSR"):
         return text, program.decoded(str(path), text).checkpoints[-1].count
-    session, last = _without_checkpoints(text)
-    answer = program.record(session)
-    if answer.status == REFUSED:
-        raise Refused(f"{path}: neither a recording nor a session: {answer.line}")
-    return answer.output, last
+    session, counts = without_checkpoints(text)
+    return program.recorded(session, f"{path}: neither a recording nor a session: "), counts[-1] if counts else 0
 
 
-def _without_checkpoints(text: bytes) -> tuple[bytes, int]:
-    """Returns a session without its checkpoints, so that recording it runs nothing, and the last of their counts. A text
-    whose checkpoints are not lawful stays as it is, for the program to refuse."""
+def without_checkpoints(text: bytes) -> tuple[bytes, list[int]]:
+    """Returns a session without its checkpoints, so that recording it runs nothing, and their counts. A text whose checkpoints
+    are not lawful stays as it is, for the program to refuse."""
     session = parsed(text)
     counts = session.get("checkpoints") if isinstance(session, dict) else None
-    if not isinstance(counts, list) or not all(type(count) is int and 0 < count <= COUNTS for count in counts):
-        return text, 0
-    if any(one >= other for one, other in zip(counts, counts[1:])) or len(counts) > CHECKPOINTS:
-        return text, 0
-    return json.dumps({**session, "checkpoints": []}).encode(), counts[-1] if counts else 0
+    if not isinstance(counts, list) or len(counts) > CHECKPOINTS or not all(type(count) is int for count in counts):
+        return text, []
+    if any(one >= other for one, other in zip([0, *counts], [*counts, COUNTS + 1])):
+        return text, []
+    return json.dumps({**session, "checkpoints": []}).encode(), counts

@@ -39,7 +39,7 @@ FIRST, LAST = 0, 1
 AND = 1 << 31
 
 
-def ignore(count: int) -> None:
+def ignore(progress: object) -> None:
     """A progress callback that does nothing."""
 
 

@@ -39,19 +39,6 @@ class Profile:
             if content[8 * first : 8 * (first + WORDS_IN_PAGE)] != none:
                 yield from (at for at in range(first, first + WORDS_IN_PAGE) if self.visits[at])
 
-    def __add__(self, more: "Profile") -> "Profile":
-        """Returns the profile of a run and of the one that follows it."""
-        both = Profile(self.visits[:], self.departures[:])
-        for at in more.visited():
-            both.visits[at] += more.visits[at]
-            both.departures[at] += more.departures[at]
-        return both
-
-    @property
-    def instructions(self) -> int:
-        """Returns how many instructions were done in memory; one that stopped the machine is among them."""
-        return sum(self.visits[at] for at in self.visited())
-
 
 @dataclass(frozen=True)
 class Sent:

@@ -23,15 +23,19 @@ class Opened:
 
     def count(self, asked: int | None) -> int:
         """Returns the count of the option --at, or that of the last checkpoint if there is none. Raises Refused for a later one."""
-        last = self.run.counts[-1]
-        if asked is not None and asked > last:
-            raise Refused(f"--at {asked} is after the last checkpoint, which is at {last}")
-        return last if asked is None else asked
+        return count_asked("--at", asked, self.run.counts[-1])
+
+
+def count_asked(option: str, count: int | None, last: int) -> int:
+    """Returns the count of an option, or that of the last checkpoint if there is none. Raises Refused for a later one."""
+    if count is not None and count > last:
+        raise Refused(f"{option} {count} is after the last checkpoint, which is at {last}")
+    return last if count is None else count
 
 
 def opened(asked: Namespace, limit: Limit) -> Opened:
     """Returns the recording that the arguments of a tool name, with the names of their symbol file, or of the one beside it."""
     symbols, program = symbols_for(asked.symbols, asked.recording), Program.find(asked.program, limit)
     run = Run.checked(Library.find(asked.library, limit), program, asked.recording)
-    tell_misfit(symbols, run.first_memory)
+    tell_misfit(symbols, run.read.first_memory)
     return Opened(run, symbols, program)

@@ -9,7 +9,7 @@ from pathlib import Path
 from typing import BinaryIO
 
 from galluspa.formats import recording
-from galluspa.formats.recording import Recording
+from galluspa.formats.recording import Checkpoint, Recording
 from galluspa.process import children, paths
 from galluspa.process.cli import FAILED, MOST, Failed, Refused
 from galluspa.process.timelimit import Limit
@@ -18,6 +18,9 @@ ACCEPTED = 0
 FALSE = 1
 REFUSED = 2
 WORDS_REFUSED = 4
+# The most workers of a check, and the default.
+MOST_WORKERS = 64
+WORKERS = min(os.cpu_count() or 1, MOST_WORKERS)
 
 _FALSE_LINE = re.compile(r"false checkpoint (\d+) at \d+ part (.+)")
 _REFUSED_LINE = re.compile(r"refused (\d+) \w+ at byte (\d+)")
@@ -92,6 +95,11 @@ class Program:
         """Returns the picture of what a checkpoint claims, or the line that refuses the text."""
         return self._ask("screen", "--at", str(checkpoint), given=text)
 
+    def drawn(self, state: Checkpoint, memory: bytes) -> bytes:
+        """Returns the picture of a state with a memory, of which the bytes from DISPLAY_PAGES on are enough. Only these are read,
+        and not the whole recording that the state is of."""
+        return self.screen(recording.of_display(state, memory), 0).output
+
     def decoded(self, name: str, text: bytes) -> Recording:
         """Returns the recording of these bytes. Raises Refused with the program's line, after a name, if they are not valid."""
         answer = self.screen(text, 0)
@@ -102,6 +110,13 @@ class Program:
     def record(self, session: bytes) -> Answer:
         """Returns the recording of a session, or the line that refuses it."""
         return self._ask("record", given=session)
+
+    def recorded(self, session: bytes, before: str = "") -> bytes:
+        """Returns the recording of a session. Raises Refused with the program's line, after a text, if there is none."""
+        answer = self.record(session)
+        if answer.status != ACCEPTED:
+            raise Refused(f"{before}{answer.line}")
+        return answer.output
 
     def answer(self, words: Sequence[str], given: bytes | BinaryIO) -> Answer:
         """Returns what the program answers to any arguments and any input."""

@@ -13,7 +13,7 @@ from galluspa.engine.program import WORDS_REFUSED, Answer, Program
 from galluspa.formats.faults import explain_fault
 from galluspa.formats.recording import MOST_PAGES, MOST_SENT
 from galluspa.formats.sessionfaults import explained, is_session
-from galluspa.process.cli import OK, REFUSED, Output, Parser, Refused, complain, read_file, write_bytes, write_file
+from galluspa.process.cli import OK, REFUSED, Output, Parser, Refused, complain, read_file, write_output
 from galluspa.process.escapes import printable
 
 STANDARD_INPUT = Path("/dev/stdin")
@@ -43,7 +43,7 @@ def main(asked: Namespace, command: str, options: Sequence[str] = ()) -> int:
 
 def files_of(files: Sequence[Path], command: str) -> Sequence[Path]:
     """Returns the files that are named, or standard input if none is; a terminal holds neither recording nor session."""
-    if not files and sys.stdin is not None and sys.stdin.isatty():
+    if not files and sys.stdin.isatty():
         raise Refused(f"name a file (see galluspa {command} --help)")
     return files or [STANDARD_INPUT]
 
@@ -54,10 +54,7 @@ def carry_out(program: Program, arguments: Sequence[str], path: Path, name: str 
     text = read_file(path)
     answer = program.answer(arguments, text)
     if answer.status == OK and arguments[0] != "check":
-        if output:
-            write_file(output, answer.output)
-        else:
-            write_bytes(answer.output)
+        write_output(output, answer.output)
         return OK
     print(f"{name}{printable(answer.line)}", flush=True)
     if answer.status == WORDS_REFUSED:

@@ -4,7 +4,6 @@ A trace begins at the last checkpoint at or before a count that is known to be t
 segment.
 """
 
-import os
 from bisect import bisect_right
 from collections.abc import Callable, Iterable, Iterator, Sequence
 from copy import copy
@@ -13,7 +12,7 @@ from pathlib import Path
 
 from galluspa.engine.library import Library, ignore
 from galluspa.engine.machine import Inputs, Machine, Sent
-from galluspa.engine.program import REFUSED, Answer, Program
+from galluspa.engine.program import MOST_WORKERS, REFUSED, WORKERS, Answer, Program
 from galluspa.engine.recorded import RawStep, raw_steps
 from galluspa.formats import recording, states
 from galluspa.formats.instructions import address, is_store, mnemonic, writes
@@ -22,9 +21,6 @@ from galluspa.process.cli import Parser, Refused, progress, read_file, whole_num
 
 COMPARED_AT_ONCE = 4096
 OFTEN = 256
-# The default number of workers.
-MOST_WORKERS = 64
-WORKERS = min(os.cpu_count() or 1, MOST_WORKERS)
 
 
 @dataclass(frozen=True)
@@ -59,7 +55,9 @@ class Step:
     def stored_at(self) -> int | None:
         """Returns the address of the word that the instruction stores to, whether or not it changes; None if it stores
         nothing."""
-        at = None if self.after.stop else _stored_to(self.word, self.before)
+        if self.word is None or self.after.stop or not is_store(self.word):
+            return None
+        at = address(self.word, self.before.registers)
         return None if at is None else at & ~3
 
     @property
@@ -93,11 +91,6 @@ def differing(old: bytes, new: bytes) -> Iterator[WordChange]:
                 yield WordChange(block + 4 * at, was, now)
 
 
-def _stored_to(word: int | None, before: Checkpoint) -> int | None:
-    """Returns the byte address that an instruction stores to; None if it stores nothing."""
-    return address(word, before.registers) if word is not None and is_store(word) else None
-
-
 class Run:
     """The machine of a lawful recording at any count, and its instructions one by one."""
 
@@ -123,10 +116,10 @@ class Run:
         return Run(library, read, range(answer.false_claim[0] if answer.false_claim else len(read.checkpoints)))
 
     @staticmethod
-    def checked(library: Library, program: Program, path: Path) -> "Run":
-        """Returns the run of the recording in a file, from those of its checkpoints that a check by all processors
-        finds true."""
-        text = read_file(path)
+    def checked(library: Library, program: Program, path: Path, read: bytes | None = None) -> "Run":
+        """Returns the run of the recording in a file, which may be read already, from those of its checkpoints that a check by all
+        processors finds true."""
+        text = read_file(path) if read is None else read
         progress("checking the recording")
         answer = program.check(text, WORKERS)
         progress("")
@@ -138,10 +131,6 @@ class Run:
     def first_count(self) -> int:
         """Returns the count of the first checkpoint that is known, or is to be taken, to be true: the run begins there."""
         return self.counts[self.true.start]
-
-    def first_memory(self) -> bytes:
-        """Returns the memory of the initial state, as the recording claims it."""
-        return self.claimed(0).memory()
 
     def with_library(self, library: Library) -> "Run":
         """Returns the same run, on another library."""

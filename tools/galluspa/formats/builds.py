@@ -30,13 +30,13 @@ def sums_of(memory: bytes, instructions: Iterable[int], sources: Iterable[str]) 
         first, end = addresses[0], addresses[-1] + 4
         yield f"# code crc32 {zlib.crc32(memory[first:end]):08X} {first:X}-{end:X}"
     for name in dict.fromkeys(sources):
-        content = _content(Path(name))
+        content = source_content(Path(name))
         if content is not None and printable(name) == name.strip() and len(name) <= 255:
             yield f"# source crc32 {zlib.crc32(content):08X} {name}"
 
 
-def _content(path: Path) -> bytes | None:
-    """Returns the bytes of a regular file of a proper size, or None."""
+def source_content(path: Path) -> bytes | None:
+    """Returns the bytes of a source; None of anything but a regular file of a proper size."""
     try:
         about = path.stat()
         if not stat.S_ISREG(about.st_mode) or about.st_size > MOST_BYTES:
@@ -52,7 +52,7 @@ def edited_sources(content: bytes, folders: Sequence[Path]) -> list[str]:
     found = []
     for wanted, written in SOURCE_SUM.findall(content)[:MOST_SOURCES]:
         name = written.decode("utf-8", "replace")
-        there = next((it for it in (_content(folder / name) for folder in folders) if it is not None), None)
+        there = next((it for it in (source_content(folder / name) for folder in folders) if it is not None), None)
         if there is not None and zlib.crc32(there) != int(wanted, 16):
             found.append(name)
     return found

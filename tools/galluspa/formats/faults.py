@@ -6,6 +6,7 @@ The program says that there is a fault, and at which byte. This module looks up 
 import struct
 from collections.abc import Callable, Iterator, Sequence
 from dataclasses import dataclass
+from itertools import takewhile
 
 from galluspa.formats.recording import (
     CHANGES_AT,
@@ -246,7 +247,7 @@ def _short(text: bytes, at: int) -> Fault:
         what = "its pages, events and checkpoints" if _number(text, 4) == 1 else "its pages and events"
         rule = f"by its header, a text with {what} has at least {least:,} bytes"
         return Fault(f"the file ends in {what}", at, b"", rule)
-    claims = list(_whole(text))
+    claims = list(takewhile(lambda it: it.end <= len(text), _claims(text)))
     if len(claims) < number:
         start = claims[-1].end if claims else tables
         needs = start + (CHANGES_AT if at < start + CHANGES_AT else _changed_bytes(text, start))
@@ -258,14 +259,6 @@ def _short(text: bytes, at: int) -> Fault:
         )
     rule = f"with all bytes that its checkpoints say were sent the recording has {_end(text):,} bytes"
     return Fault("the file ends in the bytes sent", at, b"", rule)
-
-
-def _whole(text: bytes) -> Iterator[_Claim]:
-    """Yields the checkpoints that the text has in full."""
-    for claim in _claims(text):
-        if claim.end > len(text):
-            return
-        yield claim
 
 
 def _end(text: bytes) -> int:

@@ -65,6 +65,17 @@ class _Template:
         return self.text % tuple([field(word, at) for field in self.fields])
 
 
+def bit(word: int, place: int) -> int:
+    """Returns a bit of a word."""
+    return word >> place & 1
+
+
+def signed(word: int, bits: int) -> int:
+    """Returns the signed number in the low bits of a word."""
+    low = word & (1 << bits) - 1
+    return low - (low >> bits - 1 << bits)
+
+
 def instruction(word: int, at: int) -> Instruction:
     """Returns the instruction of a word that lies at a place, counted in words."""
     form = _form(word >> 16)
@@ -87,7 +98,7 @@ def written(word: int) -> frozenset[str]:
     """Returns the registers and flags that an instruction writes unless it stops; those of a branch it writes if it is
     taken."""
     if is_branch(word):
-        return frozenset(("R15", "flags") if _bit(word, 28) else ())
+        return frozenset(("R15", "flags") if bit(word, 28) else ())
     if is_store(word):
         return frozenset()
     has_h = word >> 31 == 0 and word >> 16 & 15 in WITH_H
@@ -98,14 +109,24 @@ def operands_of(word: int) -> list[str]:
     """Returns the registers and flags that an instruction reads; a store also reads what it stores."""
     a, b, c = (f"R{word >> place & 15}" for place in (24, 20, 0))
     if is_branch(word):
-        return ["flags"] * (word >> 24 & 7 != ALWAYS) + [c] * (not _bit(word, 29) and word >> 24 & 15 != NEVER)
+        return ["flags"] * (word >> 24 & 7 != ALWAYS) + [c] * (not bit(word, 29) and word >> 24 & 15 != NEVER)
     if word >> 31:
         return list(dict.fromkeys([b, *([a] if is_store(word) else [])]))
-    op, is_by_register, u = word >> 16 & 15, not _bit(word, 30), _bit(word, 29)
+    op, is_by_register, u = word >> 16 & 15, not bit(word, 30), bit(word, 29)
     if op == 0 and u:
-        return [["H"], ["flags"]][_bit(word, 28)] if is_by_register else []
+        return [["H"], ["flags"]][bit(word, 28)] if is_by_register else []
     read = [b] * (op != 0) + [c] * is_by_register + ["flags"] * (u and op in WITH_CARRY)
     return list(dict.fromkeys(read))
+
+
+def is_operation(word: int) -> bool:
+    """Returns whether a word is an operation on registers."""
+    return word >> 31 == 0
+
+
+def is_move(word: int) -> bool:
+    """Returns whether a word is a load or a store."""
+    return word >> 30 == 2
 
 
 def is_branch(word: int) -> bool:
@@ -117,7 +138,7 @@ def is_taken(word: int, flags: int) -> bool:
     """Returns whether a branch is taken under flags (N is 8, Z 4, C 2, V 1)."""
     n, z, c, v = (bool(flags & bit) for bit in (8, 4, 2, 1))
     holds = (n, z, c, v, c or z, n != v, n != v or z, True)[word >> 24 & 7]
-    return holds != bool(_bit(word, 27))
+    return holds != bool(bit(word, 27))
 
 
 def writes(word: int, flags: int) -> frozenset[str]:
@@ -132,42 +153,33 @@ def is_store(word: int) -> bool:
 
 def address(word: int, registers: Sequence[int]) -> int | None:
     """Returns the byte address that a load or a store goes to; None of any other word."""
-    if word >> 30 != 2:
+    if not is_move(word):
         return None
-    return (registers[word >> 20 & 15] + _signed(word, 20)) & 0xFFFFFF
+    return (registers[word >> 20 & 15] + signed(word, 20)) & 0xFFFFFF
 
 
 def branches_to(word: int, at: int) -> int | None:
     """Returns the number of the word that a branch by an offset leads to, if it lies at a place; None of any other word."""
-    is_by_offset = is_branch(word) and _bit(word, 29) and word >> 24 & 15 != NEVER
-    return (at + 1 + _signed(word, 22)) % (1 << 22) if is_by_offset else None
+    is_by_offset = is_branch(word) and bit(word, 29) and word >> 24 & 15 != NEVER
+    return (at + 1 + signed(word, 22)) % (1 << 22) if is_by_offset else None
 
 
 def moved(word: int, before: int) -> int | None:
     """Returns the number that a move has as its operand, or that this word and the one before it put together: a move of the
     upper half, and IOR of the same register. None of any other word."""
     if word >> 16 & 0xF00F == 0x4000 or word >> 16 & 0xF00F == 0x5000:
-        return (word & 0xFFFF) - (0x10000 if _bit(word, 28) else 0)
+        return (word & 0xFFFF) - (0x10000 if bit(word, 28) else 0)
     a, b = word >> 24 & 15, word >> 20 & 15
     is_upper_half = before >> 28 in (6, 7) and before >> 16 & 15 == 0 and before >> 24 & 15 == a == b
     return (before & 0xFFFF) << 16 | word & 0xFFFF if is_upper_half and word >> 16 & 0xF00F == 0x4006 else None
 
 
-def _bit(word: int, place: int) -> bool:
-    return bool(word >> place & 1)
-
-
-def _signed(word: int, bits: int) -> int:
-    low = word & (1 << bits) - 1
-    return low - (low >> bits - 1 << bits)
-
-
 def _operand(word: int, _at: int) -> str:
-    return str((word & 0xFFFF) - (0x10000 if _bit(word, 28) else 0)) if _bit(word, 30) else f"R{word & 15}"
+    return str((word & 0xFFFF) - (0x10000 if bit(word, 28) else 0)) if bit(word, 30) else f"R{word & 15}"
 
 
 def _address(word: int, _at: int) -> str:
-    offset = _signed(word, 20)
+    offset = signed(word, 20)
     return f"R{word >> 20 & 15}" + (f" {'-' if offset < 0 else '+'} {abs(offset)}" if offset else "")
 
 
@@ -180,16 +192,16 @@ def _test(word: int, _at: int) -> str:
 _FIELDS: Mapping[str, Callable[[int, int], object]] = {
     "a": lambda word, _: word >> 24 & 15,
     "b": lambda word, _: word >> 20 & 15,
-    "operation": lambda word, _: OPERATIONS[word >> 16 & 15] + "'" * _bit(word, 29),
+    "operation": lambda word, _: OPERATIONS[word >> 16 & 15] + "'" * bit(word, 29),
     "sign": lambda word, _: SIGNS[word >> 16 & 15],
     "operand": _operand,
     "half": lambda word, _: word & 0xFFFF,
     "upper": lambda word, _: f"{word & 0xFFFF:04X}",
-    "offset": lambda word, _: _signed(word, 20),
+    "offset": lambda word, _: signed(word, 20),
     "address": _address,
     "condition": lambda word, _: CONDITIONS[word >> 24 & 15],
-    "target": lambda word, _: _signed(word, 22) if _bit(word, 29) else f"R{word & 15}",
-    "place": lambda word, at: (at + 1 + _signed(word, 22)) % (1 << 22) if _bit(word, 29) else f"R{word & 15} div 4",
+    "target": lambda word, _: signed(word, 22) if bit(word, 29) else f"R{word & 15}",
+    "place": lambda word, at: (at + 1 + signed(word, 22)) % (1 << 22) if bit(word, 29) else f"R{word & 15} div 4",
     "test": _test,
     "back": lambda _, at: 4 * (at + 1),
 }

@@ -26,6 +26,8 @@ NO_TABLE = array("I", [0] * PLACES)
 MOST_PAGES, MOST_SENT = 65_536, 1 << 20
 DISPLAY_START = 0xE7F00
 DISPLAY_END = 0xFFF00
+# Where the first page begins that has a part of the display.
+DISPLAY_PAGES = DISPLAY_START // PAGE_BYTES * PAGE_BYTES
 
 KINDS = {1: "timer", 2: "switches", 3: "mouse", 4: "key", 5: "serial"}
 STOPS = ("running", "float", "divisor", "fetch", "address")
@@ -119,7 +121,11 @@ class Recording:
 
     def first_memory(self) -> bytes:
         """Returns the memory of the initial state."""
-        return self.memory(self.checkpoints[0], 0, PLACES * PAGE_BYTES)
+        return self.memory(self.checkpoints[0], 0, MEMORY_BYTES)
+
+    def display(self, checkpoint: Checkpoint) -> bytes:
+        """Returns the claimed bytes of memory from DISPLAY_PAGES on."""
+        return self.memory(checkpoint, DISPLAY_PAGES, MEMORY_BYTES)
 
     def word(self, checkpoint: Checkpoint, number: int) -> int:
         """Returns a claimed word of memory, by its number below 262,144."""
@@ -243,9 +249,10 @@ def table_of(pages: Mapping[int, int]) -> array:
     return array("I", [pages.get(slot, 0) for slot in range(PLACES)])
 
 
-def of_display(checkpoint: Checkpoint, pages: bytes) -> bytes:
-    """Returns the text of a recording of one state, that of a checkpoint, whose memory is 0 but for the pages from the
-    display's on."""
+def of_display(checkpoint: Checkpoint, memory: bytes) -> bytes:
+    """Returns the text of a recording of one state, that of a checkpoint, whose memory is 0 but for the end of a memory, from
+    DISPLAY_PAGES on."""
+    pages = memory[DISPLAY_PAGES - MEMORY_BYTES :]
     number = len(pages) // PAGE_BYTES
     table = table_of({PLACES - number + at: at + 1 for at in range(number)})
     alone = replace(checkpoint, count=0, output=b"", table=table)

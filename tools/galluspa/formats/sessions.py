@@ -5,9 +5,10 @@ import io
 import json
 from dataclasses import dataclass, field
 from pathlib import Path
+from typing import Any
 
 from galluspa.formats.recording import FLAGS, KINDS, MEMORY_BYTES, MOUSE, PAGE_BYTES, PLACES, Event, Recording
-from galluspa.formats.states import REGISTERS
+from galluspa.formats.states import REGISTERS, values
 from galluspa.process.cli import Refused, number, read_file
 
 # The last count, and how many inputs and checkpoints a session or a recording has at most.
@@ -64,33 +65,23 @@ def _rows(items: list[str], in_row: int) -> str:
     return "[\n    " + ",\n    ".join(rows) + "\n  ]" if items else "[]"
 
 
+def numbers_of(begun: object) -> dict[str, Any]:
+    """Returns the numbers with which a session, a state or a trial begins, besides R0 to R15."""
+    return {name: getattr(begun, name) for name in ("h", "pc", "flags", "rate", "phase")}
+
+
 def of_recording(name: str, read: Recording) -> Session:
     """Returns the session of a recording's initial state, inputs and counts. Raises Refused if no session can say that
     state."""
     first, *later = read.checkpoints
-    inexpressible = [
-        what
-        for what, value in (
-            ("stop", first.stop),
-            ("timer", first.timer),
-            ("switches", first.switches),
-            ("LEDs", first.leds),
-            ("mouse", first.mouse),
-            ("serial", first.serial),
-            ("keys", len(first.keys)),
-        )
-        if value
-    ]
+    numbers = values(first)
+    inexpressible = [name for name in ("stop", "timer", "switches", "LEDs", "mouse", "serial", "keys") if numbers[name]]
     if inexpressible:
         parts = ", ".join(inexpressible)
         raise Refused(f"{name}: its initial state has {parts} other than 0, which a session cannot say")
     return Session(
         registers=list(first.registers),
-        h=first.h,
-        pc=first.pc,
-        flags=first.flags,
-        rate=first.rate,
-        phase=first.phase,
+        **numbers_of(first),
         memory=read.memory(first, 0, MEMORY_BYTES),
         inputs=read.events,
         checkpoints=[checkpoint.count for checkpoint in later],

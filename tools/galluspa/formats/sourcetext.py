@@ -1,14 +1,29 @@
 """Reads the lines of sources that a symbol file names, to show them. A symbol file of a stranger may name any file, so only
 those below some folders are read."""
 
-import stat
+from argparse import Namespace
 from collections.abc import Sequence
 from pathlib import Path
 
+from galluspa.formats.builds import source_content
 from galluspa.formats.symbols import Source, from_the_left
+from galluspa.process.cli import Parser
 
-# The most bytes of a source, and the most characters of a line that are shown.
-MOST_BYTES, SHOWN = 4 << 20, 120
+# The most characters of a line that are shown.
+SHOWN = 120
+
+
+def add_directory_option(options: Parser, shown: str) -> None:
+    """Adds the option that names folders of sources, of which a tool shows something."""
+    options.add_argument(
+        "--directory",
+        metavar="FOLDER",
+        type=Path,
+        action="append",
+        default=[],
+        help=f"also show {shown} that are below this folder (default: those below the folder of the symbol file); may be used "
+        "several times",
+    )
 
 
 class Sources:
@@ -17,6 +32,11 @@ class Sources:
     def __init__(self, folders: Sequence[Path]) -> None:
         self._folders = folders
         self._read: dict[str, list[str]] = {}
+
+    @staticmethod
+    def of(asked: Namespace) -> "Sources":
+        """Returns the sources that the options of a tool let it show."""
+        return Sources([*asked.directory, (asked.symbols or asked.recording).parent])
 
     def lines(self, name: str) -> Sequence[str]:
         """Returns the lines of a source; none if it is not below a folder, or not a text of a proper size."""
@@ -44,12 +64,7 @@ def _lines(folder: Path, name: str) -> list[str]:
     """Returns the lines of a file that is a text of a proper size, below a folder, wherever its links lead."""
     try:
         path = (folder / name).resolve(strict=True)
-        if not path.is_relative_to(folder.resolve()):
-            return []
-        about = path.stat()
-        if not stat.S_ISREG(about.st_mode) or about.st_size > MOST_BYTES:
-            return []
-        text = path.read_bytes()[:MOST_BYTES]
+        text = source_content(path) if path.is_relative_to(folder.resolve()) else None
     except (OSError, ValueError, RuntimeError):
         return []
-    return [line.expandtabs() for line in text.decode("utf-8", "replace").splitlines()]
+    return [line.expandtabs() for line in (text or b"").decode("utf-8", "replace").splitlines()]

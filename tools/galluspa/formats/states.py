@@ -9,21 +9,6 @@ from typing import Any
 from galluspa.formats.recording import FLAGS, KINDS, STOPS, Checkpoint, Event
 
 REGISTERS = [f"R{at}" for at in range(16)]
-# The parts of a state that are one word, in the order of parts: how the program names them, and their attributes here.
-WORDS = {
-    "H": "h",
-    "PC": "pc",
-    "flags": "flags",
-    "stop": "stop",
-    "timer": "timer",
-    "rate": "rate",
-    "phase": "phase",
-    "switches": "switches",
-    "LEDs": "leds",
-    "mouse": "mouse",
-    "serial": "serial",
-}
-
 # The parts of a processor as numbers: R0 to R15, H, the program counter, the flags and the stop.
 Processor = tuple[int, ...]
 
@@ -134,6 +119,8 @@ TEXTS: dict[str, tuple[str, Callable[[Any], str]]] = {
     "keys": ("keys", _keys),
 }
 _OTHERS = attrgetter(*(attribute for attribute, _ in TEXTS.values()))
+# The parts of a state that are one word, in the order of parts: how the program names them, and their attributes here.
+WORDS = {name: attribute for name, (attribute, _) in TEXTS.items() if name != "keys"}
 
 
 def kind(taken: Event) -> str:

@@ -1,6 +1,7 @@
 """Reads and writes symbol files, which give names and source lines to addresses (docs/symbols.md)."""
 
 import gc
+import os
 import re
 from collections.abc import Iterable, Iterator
 from pathlib import Path
@@ -165,7 +166,7 @@ def file_beside(*files: Path) -> Path | None:
     """Returns the symbol file that is beside one of some files and has its name, with .sym at the end: the first; None if there
     is none."""
     paths = (file.with_suffix(SUFFIX) for file in files if file.name)
-    return next((it for it in paths if it.is_file()), None)
+    return next((it for it in paths if os.path.isfile(it)), None)
 
 
 def symbols_for(asked: Path | None, *beside: Path) -> Symbols:

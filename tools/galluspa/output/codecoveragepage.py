@@ -5,7 +5,7 @@ from dataclasses import dataclass
 
 from galluspa.analysis.codecoverage import CodeCoverage, Covered, Share, total
 from galluspa.formats.instructions import instruction
-from galluspa.output.pages import templates
+from galluspa.output.pages import generated
 
 
 @dataclass(frozen=True)
@@ -43,17 +43,14 @@ class ShownModule:
 def page(name: str, summary: str, unread: Sequence[str], found: CodeCoverage) -> Iterator[str]:
     """Returns the page, piece by piece."""
     shares = total(found.covered)
-    return (
-        templates()
-        .get_template("codecoverage.html.j2")
-        .generate(
-            name=name,
-            headline=f"{shares[1]} words executed",
-            is_whole=shares[1].some == shares[1].all and not unread,
-            summary=summary,
-            unread=unread,
-            modules=[ShownModule(module, total(its), [_shown(it, found) for it in its]) for module, its in found.modules().items()],
-        )
+    return generated(
+        "codecoverage.html.j2",
+        name=name,
+        headline=f"{shares[1]} words executed",
+        is_whole=shares[1].some == shares[1].all and not unread,
+        summary=summary,
+        unread=unread,
+        modules=[ShownModule(module, total(its), [_shown(it, found) for it in its]) for module, its in found.modules().items()],
     )
 
 

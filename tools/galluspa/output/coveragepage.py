@@ -4,7 +4,7 @@ from collections.abc import Iterator, Sequence
 from dataclasses import dataclass
 
 from galluspa.analysis.coverage import CELLS, TABLES, Coverage, Table
-from galluspa.output.pages import templates
+from galluspa.output.pages import generated
 
 
 @dataclass(frozen=True)
@@ -39,17 +39,14 @@ class ShownTable:
 def page(name: str, summary: str, unread: Sequence[str], seen: Coverage) -> Iterator[str]:
     """Returns the page, piece by piece."""
     missing = sum(not seen.times[cell] for cell in CELLS)
-    return (
-        templates()
-        .get_template("coverage.html.j2")
-        .generate(
-            name=name,
-            headline=f"{len(CELLS) - missing:,} of {len(CELLS):,} exercised",
-            is_whole=not missing,
-            summary=summary,
-            unread=unread,
-            tables=[_shown(table, seen) for table in TABLES],
-        )
+    return generated(
+        "coverage.html.j2",
+        name=name,
+        headline=f"{len(CELLS) - missing:,} of {len(CELLS):,} exercised",
+        is_whole=not missing,
+        summary=summary,
+        unread=unread,
+        tables=[_shown(table, seen) for table in TABLES],
     )
 
 

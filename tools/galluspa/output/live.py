@@ -14,7 +14,7 @@ from pathlib import Path
 from markupsafe import Markup
 
 from galluspa.formats.symbols import NONE, Symbols
-from galluspa.output.pages import templates
+from galluspa.output.pages import generated
 from galluspa.process import paths
 from galluspa.process.cli import Refused, read_file
 from galluspa.process.escapes import printable
@@ -90,21 +90,17 @@ def page(name: str, text: bytes, line: str) -> Iterator[str]:
     """Yields the page that `galluspa live FILE` opens: the machine at the initial state of a recording, with its verdict line."""
     live = Live.of(name, text)
     allowed = replace(live, policy=live.policy.replace("script-src ", f"script-src {_hashed(START)} ", 1))
-    return templates().get_template("live.html.j2").generate(name=name, live=allowed, line=line, start=START)
+    return generated("live.html.j2", name=name, live=allowed, line=line, start=START)
 
 
 def _packed(text: bytes) -> str:
-    """Bytes as the page unpacks them: compressed, as base64."""
-    return base64.b64encode(_compressed(text)).decode()
-
-
-def _compressed(text: bytes) -> bytes:
-    """Bytes in the format of gzip, made piece by piece, so that a signal is handled between them."""
+    """Bytes as the page unpacks them: in the format of gzip, made piece by piece, so that a signal is handled between them, as
+    base64."""
     out = io.BytesIO()
     with gzip.GzipFile(fileobj=out, mode="wb", mtime=0) as packed:
         for at in range(0, len(text), AT_ONCE):
             packed.write(text[at : at + AT_ONCE])
-    return out.getvalue()
+    return base64.b64encode(out.getvalue()).decode()
 
 
 def _part(page: str, pattern: str) -> str:

@@ -1,5 +1,6 @@
 """What all pages share: their templates, and the policy that blocks loading and scripts."""
 
+from collections.abc import Iterator
 from pathlib import Path
 
 from jinja2 import Environment, FileSystemLoader, StrictUndefined
@@ -7,11 +8,10 @@ from jinja2 import Environment, FileSystemLoader, StrictUndefined
 POLICY = "default-src 'none'; style-src 'unsafe-inline'; img-src data:; base-uri 'none'; form-action 'none'"
 
 
-def templates() -> Environment:
-    """Returns the templates of pages, which refuse what they are not given. In them all text is escaped."""
+def generated(template: str, **given: object) -> Iterator[str]:
+    """Returns the page of a template, piece by piece. In it all text is escaped, and it refuses what it is not given."""
     folder = Path(__file__).resolve().parent
-    made = Environment(
+    templates = Environment(
         loader=FileSystemLoader(folder), autoescape=True, trim_blocks=True, lstrip_blocks=True, undefined=StrictUndefined
     )
-    made.globals["policy"] = POLICY
-    return made
+    return templates.get_template(template).generate(given, policy=POLICY)

@@ -9,8 +9,9 @@ from dataclasses import dataclass
 
 from PIL import Image, ImageChops
 
+from galluspa.analysis.film import HEADER
 from galluspa.engine.program import Program
-from galluspa.formats.recording import DISPLAY_END, DISPLAY_START, PAGE_BYTES, Checkpoint, Recording, of_display
+from galluspa.formats.recording import DISPLAY_END, DISPLAY_START, Recording
 from galluspa.process.children import in_parallel
 from galluspa.process.timelimit import TimeIsUp
 
@@ -26,7 +27,6 @@ SET, GONE = (214, 40, 40), (0, 110, 230)
 # The number of dots that are shown around a box: its least column and row from below, and its greatest.
 MARGIN = 8
 Box = tuple[int, int, int, int]
-PBM = b"P4\n1024 768\n"
 
 
 @dataclass(frozen=True)
@@ -51,28 +51,18 @@ def screens(program: Program, read: Recording) -> Screens:
     numbers = sorted(set(made.first))
 
     def drawn(number: int) -> bytes:
-        return program.screen(display_alone(read, read.checkpoints[number]), 0).output
+        return program.drawn(read.checkpoints[number], read.display(read.checkpoints[number]))
 
     with contextlib.suppress(TimeIsUp):
         for at in range(0, len(numbers), AT_ONCE):
-            is_full = _size(made.full) < FULL_BYTES
-            if not is_full and _size(made.small) >= SMALL_BYTES:
+            is_full = sum(map(len, made.full.values())) < FULL_BYTES
+            if not is_full and sum(map(len, made.small.values())) >= SMALL_BYTES:
                 break
             encoded, pictures = (png, made.full) if is_full else (small_png, made.small)
             some = numbers[at : at + AT_ONCE]
             for number, pbm in zip(some, in_parallel(AT_A_TIME, drawn, some), strict=True):
                 pictures[number] = encoded(pbm)
     return made
-
-
-def _size(pictures: dict[int, bytes]) -> int:
-    return sum(map(len, pictures.values()))
-
-
-def display_alone(read: Recording, checkpoint: Checkpoint) -> bytes:
-    """Returns a recording of one state, that of a checkpoint with its display and no other memory: so that drawing one
-    screen of many does not want the whole text read again."""
-    return of_display(checkpoint, b"".join(map(read.page, checkpoint.table[DISPLAY_START // PAGE_BYTES :])))
 
 
 def png(pbm: bytes) -> bytes:
@@ -101,7 +91,7 @@ def with_differences(pbm: bytes, other: bytes, masks: Sequence[bytes] = ()) -> I
     differing = ImageChops.logical_xor(picture, another)
     for bitmap in masks:
         # A bit of a bitmap is set for a dot that does not count, and a set bit of a PBM is black.
-        differing = ImageChops.logical_and(differing, read(PBM + bitmap))
+        differing = ImageChops.logical_and(differing, read(HEADER + bitmap))
     is_set, is_gone = (Image.new("RGB", picture.size, color) for color in (SET, GONE))
     shown = picture.convert("RGB")
     shown.paste(Image.composite(is_gone, is_set, picture), mask=differing)

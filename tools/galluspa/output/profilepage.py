@@ -6,7 +6,7 @@ from dataclasses import dataclass
 
 from galluspa.analysis.calltree import Node
 from galluspa.analysis.profiles import Profile
-from galluspa.output.pages import templates
+from galluspa.output.pages import generated
 from galluspa.output.profileformats import share, share_with_callees, summary
 
 # What the flame graph measures, and the narrowest box that is drawn.
@@ -58,29 +58,26 @@ def _with_callees(profile: Profile) -> dict[int, int]:
 def page(name: str, profile: Profile, difference: Sequence[str]) -> Iterator[str]:
     """Returns the page, piece by piece."""
     drawn = list(boxes(profile))
-    return (
-        templates()
-        .get_template("profile.html.j2")
-        .generate(
-            name=name,
-            headline=f"{profile.instructions:,} instructions",
-            summary=summary(profile),
-            boxes=drawn,
-            width=WIDTH,
-            height=HEIGHT,
-            depth=max((it.y for it in drawn), default=0) + HEIGHT,
-            rows=[
-                (
-                    it.procedure.name,
-                    it.own,
-                    share(it.own, profile.instructions),
-                    it.text,
-                    share_with_callees(it, profile),
-                    it.calls,
-                )
-                for it in profile.rows()
-            ],
-            calls=[(number, caller.name, called.name) for (caller, called), number in profile.edges().items()],
-            difference="\n".join(difference),
-        )
+    return generated(
+        "profile.html.j2",
+        name=name,
+        headline=f"{profile.instructions:,} instructions",
+        summary=summary(profile),
+        boxes=drawn,
+        width=WIDTH,
+        height=HEIGHT,
+        depth=max((it.y for it in drawn), default=0) + HEIGHT,
+        rows=[
+            (
+                it.procedure.name,
+                it.own,
+                share(it.own, profile.instructions),
+                it.text,
+                share_with_callees(it, profile),
+                it.calls,
+            )
+            for it in profile.rows()
+        ],
+        calls=[(number, caller.name, called.name) for (caller, called), number in profile.edges().items()],
+        difference="\n".join(difference),
     )

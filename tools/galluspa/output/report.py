@@ -2,7 +2,6 @@
 
 import base64
 import hashlib
-import os
 import shlex
 from collections.abc import Iterable, Iterator, Sequence
 from dataclasses import dataclass, field, replace
@@ -18,7 +17,8 @@ from galluspa.analysis.explanation import FalseClaim, explain_false
 from galluspa.analysis.film import picture
 from galluspa.analysis.naming import placed_lines, remark_on_part, with_remark
 from galluspa.engine.library import Library
-from galluspa.engine.program import ACCEPTED, REFUSED, Answer, Program
+from galluspa.engine.opening import count_asked
+from galluspa.engine.program import ACCEPTED, REFUSED, WORKERS, Answer, Program
 from galluspa.engine.tracing import Run
 from galluspa.formats import recording, states
 from galluspa.formats.faults import explain_fault
@@ -29,7 +29,7 @@ from galluspa.formats.states import Part
 from galluspa.formats.symbols import NONE, Symbols
 from galluspa.output.comparedscreens import ComparedScreens
 from galluspa.output.live import Live, Source
-from galluspa.output.pages import templates
+from galluspa.output.pages import generated
 from galluspa.output.pictures import Screens, screens
 from galluspa.process.cli import FAILED, Refused
 from galluspa.process.escapes import printable
@@ -156,7 +156,7 @@ class Report:
         """The report on a text, after the program has judged it, or had no time to; the library, if it is found,
         says what is false. Names are shown beside the addresses that they stand for."""
         try:
-            answer = program.check(text, min(os.cpu_count() or 1, 64))
+            answer = program.check(text, WORKERS)
             read = None if answer.status == REFUSED else recording.read(text)
         except TimeIsUp as over:
             answer, read = Answer(str(over).encode(), FAILED), _lawful(program, text)
@@ -202,12 +202,10 @@ class Report:
             return None
         if self.recording is None:
             raise Refused(f"--at {self.at}: {self.answer.line}")
-        last = self._read.checkpoints[-1].count
-        if self.at > last:
-            raise Refused(f"--at {self.at} is after the last checkpoint, which is at {last}")
+        at = count_asked("--at", self.at, self._read.checkpoints[-1].count)
         run = Run.of_answer(Library.find(self.library, self.program.limit), self._read, self.answer)
         try:
-            return Moment.of(run, self.program, self.at, self.symbols)
+            return Moment.of(run, self.program, at, self.symbols)
         except TimeIsUp:
             return None
 
@@ -220,11 +218,11 @@ class Report:
 
     def html(self, is_live: bool = False) -> Iterator[str]:
         """The page, piece by piece; one that is live can check its recording again, and run on from its checkpoints."""
-        found = templates()
-        found.globals["marks"] = self._marks
         false_at, false_part = self.answer.false_claim or (None, None)
         drawn = screens(self.program, self.recording) if self.recording else None
-        return found.get_template("report.html.j2").generate(
+        return generated(
+            "report.html.j2",
+            marks=self._marks,
             live=Live.of(self.name, self.text, self.symbols, [Source.of(path) for path in self.sources]) if is_live else None,
             name=self.name,
             size=len(self.text),
@@ -321,7 +319,7 @@ class Report:
         decoded = instruction(word, checkpoint.pc)
         shown = f"{checkpoint.pc}  {word:08X}  {decoded.mnemonic}   {decoded.meaning}"
         at = 4 * checkpoint.pc
-        return with_remark(shown, [*filter(None, (self.symbols.text(at), self.symbols.source(at)))])
+        return with_remark(shown, self.symbols.text(at), self.symbols.source(at))
 
     def _marks(self, shown: Shown, part: Part) -> Markup:
         """The class of a part's cell."""
@@ -346,7 +344,7 @@ class Report:
         if not self.false or not self.false.screens:
             return None
         it, captions = self.false.screens, ("claimed", "the machine", "what differs: red is set on the machine, blue is claimed")
-        return ComparedScreens.of(it.claimed, it.defined, it.box_from_below(), [(caption, caption) for caption in captions])
+        return ComparedScreens.of(it.claimed, it.defined, it.dots.box, [(caption, caption) for caption in captions])
 
     def _inputs(self) -> Iterator[str]:
         events = iter(self._read.events)

@@ -7,10 +7,11 @@ from collections.abc import Iterator, Mapping, Sequence
 from dataclasses import dataclass
 from itertools import islice
 
+from galluspa.analysis.drawing import Dots
 from galluspa.output.comparedscreens import ComparedScreens
-from galluspa.output.pages import templates
+from galluspa.output.pages import generated
 from galluspa.output.pictures import small_png
-from galluspa.suites.approvals import Dots, masks_of, pbm_of, text_of
+from galluspa.suites.approvals import masks_of, pbm_of, text_of
 from galluspa.suites.cases import Outcome
 from galluspa.suites.judging import Judged
 from galluspa.suites.reruns import Seen
@@ -31,13 +32,15 @@ class Screen:
     @staticmethod
     def differing(look: Seen, approved: bytes, dots: Dots, masks: Sequence[bytes]) -> "Screen":
         """Returns the screen of a look that differs from what was approved."""
-        name, box = look.name, (dots.left, dots.bottom, dots.right, dots.top)
+        name = look.name
         captions = (
             (f"{name}, approved", f"{name} as approved"),
             (f"{name} now, at count {look.count:,}", f"{name} now"),
             ("what differs: red is set now, blue was", f"what differs of {name}"),
         )
-        return Screen(name, look.count, compared=ComparedScreens.of(pbm_of(approved), pbm_of(look.screen), box, captions, masks))
+        return Screen(
+            name, look.count, compared=ComparedScreens.of(pbm_of(approved), pbm_of(look.screen), dots.box, captions, masks)
+        )
 
     @staticmethod
     def alike(look: Seen) -> "Screen":
@@ -78,17 +81,14 @@ def page(name: str, outcomes: Sequence[Outcome], changes: list[Change] | None, s
     for change in changes or []:
         kinds[change.name].append(change.kind)
     ordered = sorted(outcomes, key=lambda it: it.is_ok)
-    return (
-        templates()
-        .get_template("rerun.html.j2")
-        .generate(
-            name=name,
-            headline=f"{len(outcomes) - wrong} of {len(outcomes)} as approved",
-            is_good=not wrong,
-            seconds=f"{sum(it.seconds for it in outcomes):.1f}",
-            changes=changes,
-            kinds=kinds,
-            outcomes=ordered,
-            shown=shown,
-        )
+    return generated(
+        "rerun.html.j2",
+        name=name,
+        headline=f"{len(outcomes) - wrong} of {len(outcomes)} as approved",
+        is_good=not wrong,
+        seconds=f"{sum(it.seconds for it in outcomes):.1f}",
+        changes=changes,
+        kinds=kinds,
+        outcomes=ordered,
+        shown=shown,
     )

@@ -5,9 +5,9 @@ from collections import defaultdict
 from collections.abc import Iterator, Sequence
 from dataclasses import dataclass
 
-from galluspa.engine.program import ACCEPTED, Program
-from galluspa.output.pages import templates
-from galluspa.output.pictures import display_alone, small_png
+from galluspa.engine.program import Program
+from galluspa.output.pages import generated
+from galluspa.output.pictures import small_png
 from galluspa.process.children import in_parallel
 from galluspa.process.cli import Refused
 from galluspa.suites.cases import Case, Outcome
@@ -32,17 +32,14 @@ def page(program: Program, name: str, outcomes: Sequence[Outcome], jobs: int, ch
     wrong = sum(not it.is_ok for it in outcomes)
     headline = f"{len(outcomes) - wrong} of {len(outcomes)} as expected"
     ordered = sorted(outcomes, key=lambda it: it.is_ok)
-    return (
-        templates()
-        .get_template("suite.html.j2")
-        .generate(
-            name=name,
-            headline=headline,
-            is_good=not wrong,
-            seconds=f"{sum(it.seconds for it in outcomes):.1f}",
-            changes=changes,
-            shown=_shown(program, ordered, jobs, changes or []),
-        )
+    return generated(
+        "suite.html.j2",
+        name=name,
+        headline=headline,
+        is_good=not wrong,
+        seconds=f"{sum(it.seconds for it in outcomes):.1f}",
+        changes=changes,
+        shown=_shown(program, ordered, jobs, changes or []),
     )
 
 
@@ -62,7 +59,6 @@ def thumbnail(program: Program, case: Case) -> bytes:
     """Returns the last screen of a recording, small, as PNG; empty if the program shows none."""
     try:
         read = program.decoded(case.name, case.content())
-        drawn = program.screen(display_alone(read, read.checkpoints[-1]), 0)
+        return small_png(program.drawn(read.checkpoints[-1], read.display(read.checkpoints[-1])))
     except (Refused, MemoryError):
         return b""
-    return small_png(drawn.output) if drawn.status == ACCEPTED else b""

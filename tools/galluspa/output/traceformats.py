@@ -123,8 +123,7 @@ class TextLines:
         if key not in self._remarks:
             if len(self._remarks) == KEPT_WORDS:
                 self._remarks.clear()
-            remarks = [symbols.text(4 * pc), *remarks_on(step_of(step), symbols)]
-            self._remarks[key] = with_remark("", [*filter(None, remarks)])
+            self._remarks[key] = with_remark("", symbols.text(4 * pc), *remarks_on(step_of(step), symbols))
         return self._remarks[key]
 
 

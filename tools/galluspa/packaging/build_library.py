@@ -163,7 +163,6 @@ def build(known: dict[str, list[str]], crates: Sequence[str], keeps: Sequence[st
 
 
 def parser() -> Parser:
-    """Returns the command line of this tool."""
     options = Parser("Proves the library for C and builds it: static, shared, and as LLVM bitcode.", "galluspa build-library")
     options.add_argument("--as-built", action="store_true", help="use the libraries below as rt ci has just built them")
     return options

@@ -106,7 +106,7 @@ class Contents:
         """Yields all files, below a prefix such as /usr; share/galluspa is laid out as the repository."""
         yield File("bin/oberon_replay", read_file(self.program.path), True)
         yield File(f"bin/{NAME}", LAUNCHER.encode(), True)
-        yield from self._library(f"lib/{_multiarch()}")
+        yield from self._library(f"lib/{sysconfig.get_config_var('MULTIARCH') or '.'}")
         yield File(f"lib/python3/dist-packages/{NAME}", target=f"../../../share/galluspa/tools/{NAME}")
         yield File("include/galluspa.h", read_file(TOP / "include/galluspa.h"))
         yield File("share/galluspa/VERSION", f"{self.version}\n".encode())
@@ -151,10 +151,6 @@ def _tree(folder: Path, to: str) -> Iterator[File]:
 def _is_run(path: Path) -> bool:
     """Returns whether a file can be run."""
     return bool(path.stat().st_mode & 0o111)
-
-
-def _multiarch() -> str:
-    return sysconfig.get_config_var("MULTIARCH") or "."
 
 
 def commands_of(program: Program) -> dict[str, list[str]]:

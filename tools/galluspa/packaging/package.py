@@ -9,14 +9,13 @@ from textwrap import dedent
 
 from galluspa.engine.program import Program
 from galluspa.packaging.contents import Contents, about, architecture, debian, library_folder, tarball
-from galluspa.process.cli import Failed, Parser, Refused, write_file
+from galluspa.process.cli import Failed, Parser, make_folder, write_file
 from galluspa.process.escapes import printable
 from galluspa.process.temporary import temporary_folder
 from galluspa.process.version import last_commit, of_commit
 
 
 def parser() -> Parser:
-    """Returns the command line of this tool."""
     options = Parser(
         dedent(
             """\
@@ -59,10 +58,7 @@ def main(asked: Namespace) -> int:
         raise Failed(f"temporary files: {error.strerror}") from error
     sums = (f"{hashlib.sha256(content).hexdigest()}  {it}\n" for it, content in made.items())
     made["SHA256SUMS"] = "".join(sums).encode()
-    try:
-        asked.into.mkdir(parents=True, exist_ok=True)
-    except OSError as error:
-        raise Refused(f"{asked.into}: {error.strerror}") from error
+    make_folder(asked.into)
     for it, content in made.items():
         write_file(asked.into / it, content)
         print(printable(str(asked.into / it)))

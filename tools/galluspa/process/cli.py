@@ -92,6 +92,11 @@ class Parser(argparse.ArgumentParser):
             "for libraries)",
         )
 
+    def add_machine_options(self) -> None:
+        """Adds the options that name the program and the library."""
+        self.add_program_option()
+        self.add_library_option()
+
     def add_symbols_option(self) -> None:
         """Adds the option that names the file that gives names to addresses."""
         self.add_argument(
@@ -215,8 +220,31 @@ def write_file(path: str | Path, content: bytes) -> None:
         else:
             _replace(path, target, content)
     except (OSError, ValueError) as error:
-        is_full = isinstance(error, OSError) and error.errno in NO_ROOM
-        raise (Failed if is_full else Refused)(f"{path}: {_why(error)}") from error
+        raise _unwritable(path, error) from error
+
+
+def write_output(output: Output | None, content: bytes | str) -> None:
+    """Writes what a tool makes into the file that an option names, or prints it."""
+    if output:
+        write_file(output, content.encode() if isinstance(content, str) else content)
+    elif isinstance(content, str):
+        sys.stdout.write(content)
+    else:
+        write_bytes(content)
+
+
+def make_folder(folder: Path) -> None:
+    """Makes a folder in which something is written, with those above it, unless it is there."""
+    try:
+        folder.mkdir(parents=True, exist_ok=True)
+    except OSError as error:
+        raise _unwritable(folder, error) from error
+
+
+def _unwritable(path: str | Path, error: OSError | ValueError) -> Refused:
+    """Returns what is raised if a path cannot be written."""
+    is_full = isinstance(error, OSError) and error.errno in NO_ROOM
+    return (Failed if is_full else Refused)(f"{path}: {_why(error)}")
 
 
 def _write_into(path: str | Path, content: bytes) -> None:
@@ -303,7 +331,7 @@ def run(main: Callable[[Sequence[str]], int]) -> NoReturn:
         status = FAILED
     except OSError as error:
         complain(f"{error.filename or 'standard output'}: {_why(error)}")
-        status = FAILED
+        status = REFUSED if error.errno == errno.ENAMETOOLONG else FAILED
     sys.exit(_flushed(status))
 
 
@@ -315,17 +343,20 @@ def _end(number: int, frame: FrameType | None) -> None:
 
 
 def _open_streams() -> None:
-    """Makes sure that no opened file takes the place of a closed standard stream, and that what can't be
-    written in the encoding of a stream is escaped."""
+    """Makes sure that no opened file takes the place of a closed standard stream, and that what can't be written, or read, in the
+    encoding of a stream is escaped."""
     is_closed = sys.stdout is None
     while (place := os.open(os.devnull, os.O_RDWR)) <= 2:
         pass
     os.close(place)
+    sys.stdin = sys.stdin or open(0, closefd=False)
     sys.stderr = sys.stderr or open(2, "w", closefd=False)
     sys.stdout = sys.stdout or open(1, "w", closefd=False)
     sys.stdout, sys.stderr = _whole(sys.stdout), _whole(sys.stderr)
     for stream in (sys.stdout, sys.stderr):
         escape_unwritable(stream)
+    if isinstance(sys.stdin, io.TextIOWrapper):
+        sys.stdin.reconfigure(errors="surrogateescape")
     if is_closed:
         raise Failed(f"standard output: {os.strerror(errno.EBADF)}")
 

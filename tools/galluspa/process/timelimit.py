@@ -23,10 +23,5 @@ class Limit:
         """Returns the seconds that are left. Raises TimeIsUp if none are."""
         left = self._end - time.monotonic()
         if left <= 0:
-            raise TimeIsUp(self.answer)
+            raise TimeIsUp(f"no answer in {self.seconds:g} s")
         return left
-
-    @property
-    def answer(self) -> str:
-        """Returns what a tool answers when the limit has expired."""
-        return f"no answer in {self.seconds:g} s"

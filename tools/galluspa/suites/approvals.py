@@ -12,10 +12,11 @@ from dataclasses import dataclass, field
 from itertools import zip_longest
 from pathlib import Path
 
-from galluspa.analysis.film import HEAD, HEIGHT, ROW, WIDTH, picture
+from galluspa.analysis.drawing import Dots, dots_differing
+from galluspa.analysis.film import HEAD, HEADER, HEIGHT, WIDTH, picture
 from galluspa.formats import states
 from galluspa.formats.scripts import LOOK_NAME
-from galluspa.process.cli import Refused, read_file, with_libraries, write_file
+from galluspa.process.cli import Refused, make_folder, read_file, with_libraries, write_file
 from galluspa.process.escapes import printable
 from galluspa.suites.reruns import Rerun, Seen
 
@@ -24,7 +25,6 @@ SENT, LOOKS, MASK_SUFFIX = "sent.txt", "looks.txt", ".mask.png"
 # A byte sent has four characters at most; a picture of this size, even uncompressed, has fewer bytes.
 SENT_BYTES, LOOKS_BYTES, PICTURE_BYTES = 4 * (1 << 20) + 2, 1 << 24, 1 << 20
 SHOWN = 60
-HEADER = b"P4\n1024 768\n"
 
 
 @dataclass(frozen=True)
@@ -36,23 +36,6 @@ class Approved:
     screens: dict[str, bytes]
     sent: str
     masks: dict[str, bytes] = field(default_factory=dict)
-
-
-@dataclass(frozen=True)
-class Dots:
-    """Dots in which two screens differ: how many there are, the box around them, from the left and from below, and the first of
-    them from the top."""
-
-    number: int
-    left: int
-    bottom: int
-    right: int
-    top: int
-    first: tuple[int, int]
-
-    def __str__(self) -> str:
-        dots = f"{self.number:,} {'dot' if self.number == 1 else 'dots'}"
-        return f"{dots} from {self.left},{self.bottom} to {self.right},{self.top}"
 
 
 @dataclass(frozen=True)
@@ -84,7 +67,7 @@ def text_of(sent: bytes) -> str:
 def read(folder: Path, top: Path) -> Approved | None:
     """Returns what is approved in a folder; None if there is no such folder. Raises Refused if it leads out of the suite, or if a
     file in it is none that `write` writes."""
-    if not folder.exists() and not folder.is_symlink():
+    if not os.path.lexists(folder):
         return None
     lines = _read(folder / LOOKS, top, LOOKS_BYTES).decode("utf-8", "replace").splitlines()
     looks: dict[str, list[str]] = {}
@@ -123,10 +106,7 @@ def _keep_inside(path: Path, top: Path) -> None:
 def write(folder: Path, top: Path, ran: Rerun, before: Approved | None) -> None:
     """Writes what a run shows as golden files, and removes the pictures of looks that it does not have any more."""
     _keep_inside(folder, top)
-    try:
-        folder.mkdir(exist_ok=True)
-    except OSError as error:
-        raise Refused(f"{folder}: {error.strerror}") from error
+    make_folder(folder)
     contents = {SENT: text_of(ran.sent).encode(), LOOKS: "".join(f"{line}\n" for it in ran.looks for line in it.lines).encode()}
     contents |= {f"{look.name}.png": look.screen for look in ran.looks}
     contents |= {f"{look.name}{MASK_SUFFIX}": picture(HEADER + look.drawn) for look in ran.looks if look.drawn}
@@ -201,7 +181,6 @@ def _differing_byte(approved: str, sent: bytes) -> int | None:
 
 
 def _differing_lines(look: Seen, approved: Sequence[str]) -> list[str]:
-    """Returns the lines of a look that differ from the approved ones."""
     pairs = [(now, was) for now, was in zip_longest(look.lines, approved, fillvalue="nothing") if now != was]
     return [f"{_cut(now.strip())}, approved {_cut(was.strip().removeprefix(f'{look.name}: '))}" for now, was in pairs]
 
@@ -232,22 +211,3 @@ def pbm_of(png: bytes) -> bytes:
     except (OSError, SyntaxError, ValueError, image.DecompressionBombError) as error:
         raise Refused(f"a golden picture is no PNG: {str(error)[:SHOWN]}") from error
     return HEADER + bytes(byte ^ 0xFF for byte in dots)
-
-
-def dots_differing(one: bytes, other: bytes, masks: Sequence[bytes] = ()) -> Dots | None:
-    """Returns in which dots two screens differ, but for those in bitmaps of what does not count; None if they differ in none."""
-    number, rows, columns, first = 0, list[int](), 0, (0, 0)
-    for row in range(HEIGHT):
-        at = HEAD + ROW * row
-        bits = int.from_bytes(one[at : at + ROW]) ^ int.from_bytes(other[at : at + ROW])
-        for mask in masks if bits else ():
-            bits &= ~int.from_bytes(mask[at - HEAD : at - HEAD + ROW])
-        if bits:
-            first = first if rows else (WIDTH - bits.bit_length(), HEIGHT - 1 - row)
-            number += bits.bit_count()
-            rows.append(HEIGHT - 1 - row)
-            columns |= bits
-    if not number:
-        return None
-    left, right = WIDTH - columns.bit_length(), WIDTH - 1 - ((columns & -columns).bit_length() - 1)
-    return Dots(number, left, min(rows), right, max(rows), first)

@@ -14,6 +14,7 @@ from galluspa.analysis.inspection import named
 from galluspa.analysis.rawconditions import CHANGE, SENDS, Condition, Raw
 from galluspa.analysis.search import Search
 from galluspa.engine.following import NO_CALL, Follower
+from galluspa.engine.library import ignore
 from galluspa.engine.machine import Machine
 from galluspa.engine.recorded import PC
 from galluspa.engine.tracing import Run
@@ -62,7 +63,7 @@ class Side:
 
     def seen(self) -> Iterator[tuple[object, int]]:
         """Yields what a user sees, in its order, with the counts."""
-        for hit in Search(self.run, [SEEN], 0, self.run.counts[-1], tell=lambda _: None).all(COUNTS):
+        for hit in Search(self.run, [SEEN], 0, self.run.counts[-1], tell=ignore).all(COUNTS):
             yield (hit.raw.change and (hit.raw.change[0], hit.raw.change[2]), hit.raw.sent), hit.count
 
     def follow(self) -> None:
@@ -205,7 +206,6 @@ def _effect(now: Side, before: Side, pair: Pair) -> str:
 
 
 def _call(call: Made, arguments: Registers) -> str:
-    """Returns a call with its arguments."""
     return f"{call.name}({', '.join(f'{name} = {value}' for name, value in arguments.items())})"
 
 

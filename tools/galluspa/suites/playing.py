@@ -7,7 +7,7 @@ from galluspa.analysis.conditions import conditions_of
 from galluspa.analysis.drawing import Mask, OpenCounts
 from galluspa.analysis.rawconditions import CHANGE, LOAD, SENDS, STOPS, Condition, Raw
 from galluspa.analysis.search import Search
-from galluspa.engine.library import Library
+from galluspa.engine.library import Library, ignore
 from galluspa.engine.machine import Inputs, Machine
 from galluspa.engine.recorded import RawStep
 from galluspa.engine.tracing import Run, RunFrom
@@ -125,7 +125,7 @@ class Playing:
     def _found(self, conditions: Sequence[Condition], first: int, end: int) -> int:
         """Returns the first count from one up to another at which a condition holds; the machine goes there."""
         self._advance(first)
-        hit = Search(self._ahead(), conditions, first, end, tell=ignored).first() if first < end else None
+        hit = Search(self._ahead(), conditions, first, end, tell=ignore).first() if first < end else None
         if hit is None:
             raise self._never(end - 1)
         self._advance(hit.count)
@@ -155,7 +155,7 @@ class Playing:
 
     def _last_change(self, event: Input | Look, parts: Sequence[Part], first: int, end: int) -> RawStep | None:
         """Returns the last instruction in [first, end) that changes the screen or sends a byte; the machine is at the first one."""
-        search = Search(self._ahead(), [CHANGES_SCREEN], first, end, tell=ignored)
+        search = Search(self._ahead(), [CHANGES_SCREEN], first, end, tell=ignore)
         if not parts:
             hit = search.last()
             return hit.raw if hit else None
@@ -227,12 +227,8 @@ class Playing:
         """Returns the first count at which the machine is stopped, of one that is so at a count; or that count."""
         if self.machine.state.stop:
             return self.machine.count
-        hit = Search(self._ahead(), [STOPPING], self.machine.count, end, tell=ignored).first()
+        hit = Search(self._ahead(), [STOPPING], self.machine.count, end, tell=ignore).first()
         return hit.count + 1 if hit else end
-
-
-def ignored(message: str) -> None:
-    """Hears nothing of a search."""
 
 
 def _load(first: int, end: int) -> Condition:

@@ -9,7 +9,7 @@ from galluspa.analysis.conditions import conditions_of
 from galluspa.analysis.rawconditions import STOPS, WRITTEN, Condition, Raw
 from galluspa.analysis.search import Search
 from galluspa.engine.following import Follower
-from galluspa.engine.library import Library
+from galluspa.engine.library import Library, ignore
 from galluspa.engine.recorded import PC
 from galluspa.engine.tracing import Run
 from galluspa.formats import recording
@@ -18,7 +18,7 @@ from galluspa.formats.scripts import STILL_FOR
 from galluspa.formats.symbols import Symbols
 from galluspa.suites.approvals import Differences
 from galluspa.suites.firstcall import Side, first_difference
-from galluspa.suites.playing import count_of_sent, ignored
+from galluspa.suites.playing import count_of_sent
 from galluspa.suites.reruns import Rerun, Seen
 
 # The most screens that are examined, calls that are named, and procedures of a loop.
@@ -62,7 +62,7 @@ class Teller:
 
     def last(self, condition: Condition, to: int) -> str:
         """Returns where the last instruction before a count is at which a condition holds."""
-        hit = Search(self.run, [condition], 0, to, tell=ignored).last()
+        hit = Search(self.run, [condition], 0, to, tell=ignore).last()
         return self.place(hit.count, hit.step.before.pc) if hit else "by nothing since the beginning"
 
     def look(self, name: str) -> Seen | None:

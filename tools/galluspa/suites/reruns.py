@@ -14,17 +14,15 @@ from galluspa.analysis.expressions import Moment
 from galluspa.analysis.film import picture
 from galluspa.engine.library import Library
 from galluspa.engine.machine import Inputs, Machine
-from galluspa.engine.program import ACCEPTED, Program
+from galluspa.engine.program import Program
 from galluspa.formats import recording
-from galluspa.formats.recording import DISPLAY_START, PAGE_BYTES, PLACES, STOPS as STOP_NAMES, Checkpoint, Recording
+from galluspa.formats.recording import STOPS as STOP_NAMES, WORDS, Checkpoint, Recording
 from galluspa.formats.scripts import CONDITION, COUNT, MEMORY, Input, Look, Script, When
 from galluspa.formats.sessions import COUNTS, Session
 from galluspa.formats.symbols import Symbols
 from galluspa.process.cli import Refused
 from galluspa.suites.boots import Boots
 from galluspa.suites.playing import Never, Playing
-
-FIRST_PAGE = DISPLAY_START // PAGE_BYTES * PAGE_BYTES
 
 
 @dataclass(frozen=True)
@@ -88,7 +86,7 @@ class Rerunner:
         refuse_mistakes(script, symbols)
         alone = replace(start, inputs=[], checkpoints=[])
         origin = alone.text()
-        machine = self.library.claim(self._recorded(alone), 0)
+        machine = self.library.claim(self.program.recorded(origin.encode()), 0)
         playing, ended = Playing(self.library, machine, symbols, script), None
         masks = [playing.mask(it) for it in script.events if isinstance(it, Look)]
         for event in script.events:
@@ -99,8 +97,13 @@ class Rerunner:
                 ended = Ended(told, event, why)
                 _look_last(playing, why)
                 break
-        session = replace(start, inputs=playing.inputs, checkpoints=[count for count, _ in playing.looks])
-        text = self._recorded(session) if playing.inputs or not ended else self._recorded_once(session)
+        session = replace(start, inputs=playing.inputs, checkpoints=[count for count, _ in playing.looks]).text()
+
+        def recorded() -> bytes:
+            return self.program.recorded(session.encode())
+
+        # Other scripts that end before their first input have the same session.
+        text = recorded() if playing.inputs or not ended else self.boots.shared(session, recorded, self.library.limit)
         read = recording.read(text)
         claims = read.checkpoints[1:]
         sent = b"".join(claim.output for claim in claims)
@@ -110,7 +113,7 @@ class Rerunner:
         for claim, (_, look), (mask, procedures) in zip(claims, taken, masks):
             by_names = Mask()
             if procedures:
-                drawing = drawn.setdefault(procedures, Drawn(self.library, machine_at(read), procedures))
+                drawing = drawn.setdefault(procedures, Drawn(self.library, Machine.claimed(read, 0), procedures))
                 by_names = drawing.up_to(Inputs(read.events), claim.count)
             looks.append(self._seen(read, claim, look, symbols, script, mask, by_names))
         return Rerun(text, looks, sent, bool(playing.inputs), ended)
@@ -134,23 +137,11 @@ class Rerunner:
         playing.machine = machine.copy()
         playing.take(event, found)
 
-    def _recorded(self, session: Session) -> bytes:
-        """Returns the recording of a session."""
-        answer = self.program.record(session.text().encode())
-        if answer.status != ACCEPTED:
-            raise Refused(answer.line)
-        return answer.output
-
-    def _recorded_once(self, session: Session) -> bytes:
-        """Returns the recording of a session that other scripts have, too: it ended before their first input."""
-        return self.boots.shared(session.text(), lambda: self._recorded(session), self.library.limit)
-
     def _seen(
         self, read: Recording, claim: Checkpoint, look: Look, symbols: Symbols, script: Script, mask: Mask, by_names: Mask
     ) -> Seen:
         """Returns what is seen at a checkpoint of a recording."""
-        pages = read.memory(claim, FIRST_PAGE, PLACES * PAGE_BYTES)
-        screen = self.program.screen(recording.of_display(claim, pages), 0).output
+        screen = self.program.drawn(claim, read.display(claim))
         stop = f"stopped ({STOP_NAMES[claim.stop]})" if claim.stop else STOP_NAMES[0]
         memory = []
         for at, asked in enumerate(look.memory):
@@ -181,11 +172,6 @@ def refuse_mistakes(script: Script, symbols: Symbols) -> None:
                 address_node(words_asked(asked)[0], symbols)
 
 
-def machine_at(read: Recording) -> Machine:
-    """Returns the machine that a recording begins with."""
-    return Machine.claimed(read, 0)
-
-
 def _look_last(playing: Playing, why: Never) -> None:
     """Adds a look to a run that ends early: where the machine stopped, or up to where the event was waited for."""
     least = 1 if playing.last is None else playing.last + 1
@@ -200,5 +186,5 @@ def _words(read: Recording, claim: Checkpoint, asked: str, symbols: Symbols) -> 
     if text == asked and (size := symbols.size(text.strip())):
         number = -(-size[0] // 4) if size[1] else min(-(-size[0] // 4), MEMORY_WORDS)
     first = address // 4
-    words = (read.word(claim, at) for at in range(first, min(first + number, PLACES * recording.WORDS_IN_PAGE)))
+    words = (read.word(claim, at) for at in range(first, min(first + number, WORDS)))
     return f"{asked}: {' '.join(f'{word:08X}' for word in words)}"

@@ -1,16 +1,16 @@
 """Stored sessions that are run again: the scripts, sessions and recordings under a folder, and the images that they run on."""
 
-import json
 import os
 from collections.abc import Sequence
 from dataclasses import dataclass, field, replace
 from pathlib import Path
 
-from galluspa.engine.program import ACCEPTED, Program
+from galluspa.engine.initial import without_checkpoints
+from galluspa.engine.program import Program
 from galluspa.formats import recording, scripts
 from galluspa.formats.scripts import Script
-from galluspa.formats.sessionfaults import LONGEST_SESSION, parsed
-from galluspa.formats.sessions import CHECKPOINTS, COUNTS, Session, check_phase, image_at, of_recording, set_register
+from galluspa.formats.sessionfaults import LONGEST_SESSION
+from galluspa.formats.sessions import Session, check_phase, image_at, of_recording, set_register
 from galluspa.formats.symbolfiles import symbols_for
 from galluspa.formats.symbols import NONE, Symbols
 from galluspa.process.cli import Refused, read_file
@@ -159,18 +159,6 @@ def session_of(program: Program, name: str, content: bytes) -> Session:
     """Returns the session that bytes are, or that of a recording. Nothing of it is run. Raises Refused if they are neither."""
     if content.startswith(b"ORSR"):
         return of_recording(name, program.decoded(name, content))
-    session = parsed(content)
-    counts = session.get("checkpoints") if isinstance(session, dict) else None
-    if not _are_counts(counts):
-        raise Refused(f"{name}: {program.record(content).line}")
-    answer = program.record(json.dumps({**session, "checkpoints": []}).encode())
-    if answer.status != ACCEPTED:
-        raise Refused(f"{name}: {answer.line}")
-    return replace(of_recording(name, recording.read(answer.output)), checkpoints=list(counts or []))
-
-
-def _are_counts(counts: object) -> bool:
-    """Returns whether a value is the counts of checkpoints."""
-    if not isinstance(counts, list) or len(counts) > CHECKPOINTS or not all(type(it) is int for it in counts):
-        return False
-    return all(one < other for one, other in zip([0, *counts], [*counts, COUNTS + 1]))
+    session, counts = without_checkpoints(content)
+    read = recording.read(program.recorded(session, f"{name}: "))
+    return replace(of_recording(name, read), checkpoints=counts)

@@ -1,6 +1,7 @@
 """Scripts and recordings as tests of pytest."""
 
 import difflib
+import os
 from collections.abc import Iterable, Iterator, Sequence
 from itertools import islice
 from pathlib import Path
@@ -91,8 +92,8 @@ class RecordingFile(pytest.File):
     def collect(self) -> Iterable[pytest.Item]:
         """Yields the test of its verdict; and that of what a user sees, if somebody approved that."""
         yield Verdict.from_parent(self, name="verdict")
-        is_script = self.path.with_name(approvals.stem_of(self.path) + SCRIPT).exists()
-        if not is_script and approvals.folder_of(self.path).exists():
+        is_script = os.path.exists(self.path.with_name(approvals.stem_of(self.path) + SCRIPT))
+        if not is_script and os.path.exists(approvals.folder_of(self.path)):
             yield Script.from_parent(self, name="rerun")
 
 

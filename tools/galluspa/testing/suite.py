@@ -8,7 +8,7 @@ import pytest
 from galluspa.engine.library import Library
 from galluspa.engine.program import Program
 from galluspa.formats.symbolfiles import symbols_for
-from galluspa.process.cli import Refused, write_file
+from galluspa.process.cli import Refused, make_folder, write_file
 from galluspa.suites import storedsessions
 from galluspa.suites.approvals import stem_of
 from galluspa.suites.cases import Case
@@ -71,10 +71,7 @@ class Suite:
 
 def write_recording(path: Path, recording: bytes) -> None:
     """Writes a recording, in a folder that is made."""
-    try:
-        path.parent.mkdir(parents=True, exist_ok=True)
-    except OSError as error:
-        raise Refused(f"{path.parent}: {error.strerror}") from error
+    make_folder(path.parent)
     write_file(path, recording)
 
 

@@ -9,7 +9,6 @@ from typing import TYPE_CHECKING, Self
 import pytest
 
 from galluspa.engine.machine import Inputs
-from galluspa.engine.program import ACCEPTED
 from galluspa.engine.tracing import RunFrom
 from galluspa.formats.recording import Event
 from galluspa.formats.scripts import (
@@ -158,10 +157,7 @@ class Workstation:
 
     def _recorded(self, inputs: Sequence[Event], checkpoints: Sequence[int]) -> bytes:
         session = replace(self._session, inputs=list(inputs), checkpoints=list(checkpoints))
-        answer = self._suite.program.record(session.text().encode())
-        if answer.status != ACCEPTED:
-            raise Refused(answer.line)
-        return answer.output
+        return self._suite.program.recorded(session.text().encode())
 
 
 class Boot:
