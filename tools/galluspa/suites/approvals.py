@@ -139,8 +139,7 @@ def differences(approved: Approved, ran: Rerun) -> Differences:
     """Returns in what a run differs from what is approved."""
     lines, screens, others = [ran.never] if ran.never else [], dict[str, Dots](), list[str]()
     looks = {look.name: look for look in ran.looks}
-    for name in approved.looks.keys() - looks.keys():
-        lines.append(f"no look {name}, which is approved")
+    lines += [f"no look {name}, which is approved" for name in approved.looks if name not in looks]
     for name, look in looks.items():
         if name not in approved.looks:
             lines.append(f"look {name} is not approved")
