@@ -15,7 +15,7 @@ from galluspa.formats.recording import WORDS
 from galluspa.formats.symbolfiles import parsed
 from galluspa.formats.symbols import NONE
 from tests.programs import randomly, waiting
-from tests.tools.samples import EXAMPLES, TOP, ToolTest, galluspa, record, run, tool
+from tests.tools.samples import EXAMPLES, JUMP, TOP, ToolTest, galluspa, record, run, session, tool
 
 PROGRAMS, MOST = 4, 500
 FRAMES = EXAMPLES / "frames/main.asm"
@@ -60,8 +60,18 @@ class ExecutionsTest(unittest.TestCase):
                     visits, departures, words = naive(it, first, counts)
                     self.assertEqual(found.visits, dict(visits), (case.name, first))
                     self.assertEqual(found.departures, {at: departures[at] for at in visits}, (case.name, first))
-                    if all(len(its) == 1 for its in words.values()) and not found.changed:
+                    changed = {at for at, its in words.items() if len(its) > 1}
+                    self.assertLessEqual(found.changed, changed, case.name)
+                    if found.changed == changed:
                         self.assertEqual(list(found.branches()), naive_branches(it, first, counts), case.name)
+
+    def test_a_word_that_a_program_writes_is_a_branch_if_it_was_executed_as_one_alone(self) -> None:
+        load, other, go = 0x81000018, 0x42000001, 0xE7FFFFFD
+        executed_before = [load, other, 0xA1000004, go, JUMP, 0, 0xE9000002]
+        only_written_before = [load, 0xA100000C, 0xE7000000, 0, 0, JUMP, 0xE9000001]
+        for words, changed, branches in ((executed_before, {1}, []), (only_written_before, set(), [Branch(3, 1, 0)])):
+            found = executions_of(Run.begun(Library.find(None), record(session(words, [100]))), 0, 100)
+            self.assertEqual((found.changed, list(found.branches())), (changed, branches))
 
     def test_runs_add_up(self) -> None:
         it = Run.begun(Library.find(None), (EXAMPLES / "face.orsr").read_bytes())

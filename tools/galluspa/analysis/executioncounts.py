@@ -6,10 +6,13 @@ from collections.abc import Callable, Iterator
 from dataclasses import dataclass, field
 
 from galluspa.engine.library import ignore
-from galluspa.engine.machine import FIRST_STEPS, Machine, slice_end, steps_after
+from galluspa.engine.machine import FIRST_STEPS, Machine, Profile, slice_end, steps_after
 from galluspa.engine.tracing import Run
 from galluspa.formats.instructions import ALWAYS, NEVER, branches_to, is_branch
 from galluspa.process import children
+
+# How many slices of a run are split at most, because a word in them was executed and written.
+SPLITS = 500
 
 
 @dataclass(frozen=True)
@@ -75,17 +78,34 @@ def executions_along(
 ) -> Executions:
     """Returns what a machine of a run executes up to a count, while a function advances it, slice by slice. Reports the count after
     each slice."""
-    found, steps = Executions(), FIRST_STEPS
+    found, steps, splits = Executions(), FIRST_STEPS, SPLITS
     while machine.count < to and not machine.state.stop and not children.is_ending():
         if run.library.limit:
             run.library.limit.left()
-        count, start, end = machine.count, time.monotonic(), slice_end(machine, run.inputs, steps, to)
+        before, start, end = machine.copy(), time.monotonic(), slice_end(machine, run.inputs, steps, to)
         profile = run.library.profile(machine, run.inputs, end)
         seconds = time.monotonic() - start
         advance(machine, end)
-        for at in profile.visited():
-            found.put(at, profile.visits[at], profile.departures[at], machine.words[at])
+        splits = _put_slice(found, run, before, machine, profile, splits)
         heard(machine.count)
-        steps = steps_after(machine, end - count, seconds)
+        steps = steps_after(machine, end - before.count, seconds)
     found.memory = array("I", machine.memory())
     return found
+
+
+def _put_slice(found: Executions, run: Run, start: Machine, end: Machine, profile: Profile, splits: int) -> int:
+    """Adds the counts of a slice between two machines of a run, and returns how many slices may still be split. A slice is split if a word
+    that it executes differs at its end: a loader may have written it before, and it is one that changed only if it was executed as both."""
+    visited = list(profile.visited())
+    changed = [at for at in visited if start.words[at] != end.words[at]]
+    if not changed or end.count - start.count == 1 or not splits:
+        for at in visited:
+            found.put(at, profile.visits[at], profile.departures[at], start.words[at])
+        if end.count - start.count > 1:
+            found.changed.update(changed)
+        return splits
+    middle = start.copy()
+    run.advance(middle, (start.count + end.count) // 2)
+    for one, other in ((start, middle), (middle, end)):
+        splits = _put_slice(found, run, one, other, run.library.profile(one, run.inputs, other.count), splits - (one is start))
+    return splits
