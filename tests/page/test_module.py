@@ -4,7 +4,7 @@ from pathlib import Path
 
 import pytest
 
-from tests.page import assembler, module, past, symbolfiles, understanding
+from tests.page import assembler, module, past, serial, symbolfiles, understanding
 from tests.page.desk import PAGE
 
 
@@ -42,6 +42,12 @@ def test_symbol_files(tmp_path: Path) -> None:
 def test_typed_keys(tmp_path: Path) -> None:
     """Each key that was typed is there once, whenever the page ends or the run is taken over."""
     module.type_and_crash(tmp_path)
+
+
+@pytest.mark.part("answers")
+def test_serial_line(tmp_path: Path) -> None:
+    """Serial bytes come as fast as a program reads them, and none before."""
+    serial.send_to_each(tmp_path)
 
 
 @pytest.mark.part("answers")

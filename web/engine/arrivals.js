@@ -49,6 +49,22 @@ export class Queue {
     return this.bytes[this.at++];
   }
 
+  /** Takes a number of bytes.
+   * @param {number} many */
+  skip(many) {
+    this.taken += many;
+    this.at += many;
+  }
+
+  /** Takes back the last bytes that were taken.
+   * @param {number[]} bytes */
+  untake(bytes) {
+    if (!bytes.length) return;
+    this.taken -= bytes.length;
+    this.bytes = joined([Uint8Array.from(bytes), this.rest]);
+    this.at = 0;
+  }
+
   /** Cancels all that wait. */
   cancel() {
     this.taken += this.length;

@@ -191,8 +191,9 @@ export class Library {
       const given = [address, address + STATE_BYTES, WORDS, list, inputs.length / INPUT_BYTES, to, wanted, conditions.length, hits, most, number];
       const code = this.exports.galluspa_hits(...given.map(BigInt)) & 255;
       if (code !== DONE) throw new Refused(ADVANCE_REFUSALS[code]);
+      const { view } = this;
       /** @param {number} at */
-      const read = (at) => Number(this.view.getBigUint64(at, true));
+      const read = (at) => Number(view.getBigUint64(at, true));
       return Array.from({ length: read(number) }, (_, at) => ({ at: read(hits + HIT_BYTES * at), which: read(hits + HIT_BYTES * at + 8) }));
     } finally {
       for (const it of held) this.leave(it);

@@ -8,7 +8,7 @@ import { Inputs, isInput } from "../formats/inputs.js";
 import { INPUT_BYTES } from "../formats/layout.js";
 import { Playback } from "./playback.js";
 import { Recorder } from "./recorder.js";
-import { CHECKPOINT_LIMIT, INPUT_LIMIT, MOST_COUNT } from "../formats/limits.js";
+import { CHECKPOINT_LIMIT, INPUT_LIMIT, MOST_COUNT, SERIAL_LIMIT } from "../formats/limits.js";
 import { Refused } from "../formats/refused.js";
 import { countOf, equalWords, joined, KEY, last, MOUSE, PER_SECOND, SERIAL, wordsOf } from "../formats/states.js";
 import { firstTable, sliceOf } from "./slices.js";
@@ -21,6 +21,8 @@ export class Machine extends Playback {
   filed = 0;
   sentTotal = 0;
   isAlwaysKept = false;
+  // How many of the last inputs are serial bytes that were given ahead of the run that takes them (serialline.js).
+  ahead = 0;
 
   /** Begins a session. `checkpoints` are the counts of its checkpoints, at which the claims of a recording are compared.
    * @param {Session} session
@@ -159,13 +161,32 @@ export class Machine extends Playback {
   }
 
   /** Passes on what was typed and sent, as fast as the machine takes it: it queues sixteen key codes, and holds one serial byte.
-   * Returns whether more waits. */
+   * Returns whether more waits that it may get. */
   feed() {
     const { keys, serial, typed } = this.arrivals;
     if (!typed || this.inputRefusal) return false;
-    for (let free = QUEUE - this.part("keys") - this.due(KEY); free > 0 && keys.length; free--) this.input(KEY, keys.take());
-    if (serial.length && !(this.part("serial") & RECEIVED) && !this.due(SERIAL)) this.input(SERIAL, serial.take());
-    return this.arrivals.typed > 0;
+    const free = Math.min(QUEUE - this.part("keys") - this.due(KEY), INPUT_LIMIT - this.inputs.length);
+    for (let key = 0; key < free && keys.length; key++) this.input(KEY, keys.take());
+    if (this.serialWaits && !this.isReceiving) this.input(SERIAL, serial.take());
+    return keys.length + this.serialWaits > 0;
+  }
+
+  /** The number of serial bytes that wait and have room in the recording. */
+  get serialWaits() {
+    return Math.max(0, Math.min(this.arrivals.serial.length, SERIAL_LIMIT - this.inputs.length));
+  }
+
+  /** Whether the receiver of the serial line holds a byte that the program has not read, or is about to get one. */
+  get isReceiving() {
+    return (this.part("serial") & RECEIVED) !== 0 || this.due(SERIAL) > 0;
+  }
+
+  /** Takes back the serial bytes that were given ahead, if the run has not come to them. They wait again. */
+  takeBack() {
+    const { inputs, ahead, arrivals: { serial } } = this, from = Math.max(this.next, inputs.length - ahead);
+    serial.untake(Array.from({ length: inputs.length - from }, (_, at) => inputs.item(from + at)[2]));
+    inputs.length = from;
+    this.ahead = 0;
   }
 
   /** Returns how many inputs of a kind come before the next instruction, of those that the user made.

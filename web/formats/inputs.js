@@ -46,8 +46,8 @@ export class Inputs {
    * @param {number} value
    */
   push(count, kind, value) {
-    this.reserve(this.bytes.length + INPUT_BYTES);
-    const at = INPUT_BYTES * this.length++, view = this.view;
+    this.reserve(INPUT_BYTES * (this.length + 1));
+    const at = INPUT_BYTES * this.length++, { view } = this;
     view.setBigUint64(at + INPUT.count, BigInt(count), true);
     view.setUint32(at + INPUT.kind, kind, true);
     view.setUint32(at + INPUT.value, value, true);

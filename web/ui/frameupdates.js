@@ -45,7 +45,7 @@ function showFrame(frame) {
   set("state", { hidden: isPlayed });
   showMode(frame);
   if (showStatus(frame) && !isPast()) showCursor(!frame.on);
-  showSerial(frame.serial);
+  showSerial(frame);
   if (wasOn && !frame.on) keep();
   // A short run begins and ends between two frames.
   const isMoved = !frame.on && before !== undefined && countOf(before) !== countOf(frame.state);

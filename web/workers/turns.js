@@ -5,15 +5,17 @@ import { FRAME_MS, generation, show, showTurn } from "./frames.js";
 import { INPUT_BYTES } from "../formats/layout.js";
 import { CHECKPOINT_LIMIT, MOST_COUNT } from "../formats/limits.js";
 import { Return } from "./returns.js";
+import { SerialLine } from "../engine/serialline.js";
 import { joined, last, PER_SECOND } from "../formats/states.js";
 import { faultOf, library, machine } from "./context.js";
 
 const LAG_MS = 100, PER_MS = PER_SECOND / 1000;
 // After some turns in which nothing came about that is shown, a turn at 25 MHz is longer; what the user does ends that at once.
 const QUIET_MS = 50;
-// While typed keys or serial bytes wait, a turn runs in up to PIECES, for PIECES_MS, so that the program gets more than one.
+// While typed keys or serial bytes wait, a turn runs in pieces for PIECES_MS, so that the program gets more than one: up to PIECES for keys; serialline.js says where
+// pieces for serial bytes end.
 const PIECES = 48, PIECES_MS = 8;
-const NOTHING = new Uint8Array();
+const NOTHING = new Uint8Array(), serialLine = new SerialLine();
 
 /** @typedef {import("../engine/feed.js").Feed} Feed */
 
@@ -168,17 +170,29 @@ function turnTo(to, deadline) {
   // A recording that goes on may have reached a limit before.
   run.becameFull ||= machine.endIfFull();
   for (let piece = least; isToGoOn() && (!sent.length || performance.now() < deadline);) {
-    const waited = machine.arrivals.typed, waits = machine.feed();
+    const waited = machine.arrivals.typed, isPieced = machine.feed() && performance.now() < pieced;
     // A program that takes nothing now gets longer pieces.
     piece = machine.arrivals.typed < waited ? least : 2 * piece;
-    const pieceEnd = waits && performance.now() < pieced ? machine.count + piece : Infinity;
     machine.foresee();
-    const stop = Math.min(to, machine.nextStop(run.seconds, machine.trueTo), run.goal ?? Infinity, pieceEnd, machine.roomEnd, MOST_COUNT);
+    const stop = Math.min(to, machine.nextStop(run.seconds, machine.trueTo), run.goal ?? Infinity, machine.roomEnd, MOST_COUNT);
     if (stop <= machine.count) break;
-    const end = breaks.length || run.returns ? breakBefore(stop) : stop;
-    if (end > machine.count) sent.push(machine.advance(end)), reached();
+    advanceTo(isPieced ? serialLine.give(machine, stop, machine.count + piece) : stop, sent);
   }
   return joined(sent);
+}
+
+/** Advances to a count, or to where the run is paused before it, and adds the bytes that the machine sent to a list.
+ * @param {number} stop
+ * @param {Bytes[]} sent */
+function advanceTo(stop, sent) {
+  try {
+    const end = breaks.length || run.returns ? breakBefore(stop) : stop;
+    if (end <= machine.count) return;
+    sent.push(machine.advance(end));
+  } finally {
+    machine.takeBack();
+  }
+  reached();
 }
 
 /** Returns the count of the first breakpoint or watch that the run meets before a count, or of the return at which it ends, or that count. The first instruction of

@@ -9,6 +9,7 @@ import { ARROWS, isSnake } from "./game.js";
 import { dotAt } from "./screen.js";
 import { inputRefusalInPast, isPast, isToGoOn, shownState } from "../../host/shown.js";
 import { AT, field, last, MOUSE, SWITCHES } from "../../formats/states.js";
+import { INPUT_LIMIT, SERIAL_LIMIT } from "../../formats/limits.js";
 import { grouped } from "../../formats/texts.js";
 
 /** @type {{ [key: string]: number }} */
@@ -335,14 +336,16 @@ async function sendBytes(serial) {
   return why;
 }
 
-/** Shows how many serial bytes wait.
- * @param {number} left */
-export function showSerial(left) {
+/** Shows how many serial bytes wait, and why they do if the recording has no room for them.
+ * @param {Frame} frame */
+export function showSerial({ serial: left, inputs }) {
   serialOf = left ? Math.max(serialOf, left) : 0;
-  set("serial-progress", { hidden: serialOf < FEW });
-  if (serialOf < FEW) return;
+  const isFull = left > 0 && inputs >= SERIAL_LIMIT, hidden = serialOf < FEW && !isFull;
+  set("serial-progress", { hidden });
+  if (hidden) return;
   set("serial-bar", { max: serialOf, value: serialOf - left });
-  write("serial-left", `${grouped(left)} of ${grouped(serialOf)} bytes wait`);
+  const why = isFull ? `: the last ${grouped(INPUT_LIMIT - SERIAL_LIMIT)} inputs of a recording are for keys and the mouse` : "";
+  write("serial-left", `${grouped(left)} of ${grouped(serialOf)} bytes wait${why}`);
 }
 
 /** Drops the serial bytes that the machine has not taken yet. */
