@@ -355,6 +355,22 @@ class Page:
         self._ask("Page.reload")
         self._wait_for_load()
 
+    def begin_with(self, script: str) -> None:
+        """Runs a script before all others in what the page loads from here on."""
+        self._ask("Page.addScriptToEvaluateOnNewDocument", source=script)
+
+    def show(self) -> None:
+        """Puts the page in front of the other tabs, which are hidden."""
+        self._ask("Page.bringToFront")
+
+    def crash(self) -> None:
+        """Ends the page's process, which has no time to do anything more."""
+        self._pipe.send({"method": "Page.crash", "params": {}, "sessionId": self._session})
+        while self._pipe.receive().get("method") != "Inspector.targetCrashed":
+            pass
+        self._pipe.pages.remove(self)
+        self._copy.cleanup()
+
     def is_kept_open(self) -> bool:
         """Loads the page anew, and answers no if the browser asks. Returns whether it asked, so that the page is still open."""
         asked, self._says_yes = len(self.dialogs), False
