@@ -54,6 +54,7 @@ export async function showKept() {
   offerToContinue(projects.filter((project) => headOf(project).isReadable), goOnWith);
   write("kept-number", `${items.length || "none"}`);
   showOpen();
+  set("kept-none", { hidden: items.length + deleted.size > 0 });
   el("kept").hidden = !items.length && !deleted.size && !app.work.generation;
   el("kept-list").replaceChildren(...[...[...deleted].map(deletedItem), ...items].flat());
 }
