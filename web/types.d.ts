@@ -709,6 +709,7 @@ interface Requests {
   toCheckpoint: [{ fast: boolean; seconds: number }, void];
   takeOver: [Start | {}, { left: Whole | null; begun: Begun | null; fork: number }];
   setBreaks: [{ conditions: Condition[] }, void];
+  keepToo: [{}, void];
   change: [{ kind: number; changes: Change[] }, string | null];
   type: [Partial<Waiting>, { fork: number; first: Numbers } | string];
   cancelSerial: [{}, void];

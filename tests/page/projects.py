@@ -202,6 +202,30 @@ def export(desk: Desk) -> None:
     print("projects: exported, accepted, opened as a page and by a drop, and kept once it goes on")
 
 
+def keep_noted(desk: Desk) -> None:
+    """A project that was opened from a file is kept once a note is pinned in it, though the page is loaded anew right after that."""
+    page = desk.page
+    begin_empty(desk)
+    open_source(desk, "echo.asm", ECHOES.format(more=0))
+    run_with_key(desk, "a")
+    file = exported(desk, "echo")
+    begin_empty(desk)
+    desk.drop("echo.html", file)
+    page.wait(f"galluspa.frame() && galluspa.source().isRunning && {SENT} === 'a'")
+    press_button(desk, "tab-log")
+    press_button(desk, "note")
+    page.insert("here it is")
+    page.press("Enter")
+    page.wait("pins.size === 1 && galluspa.frame().hasOwn")
+    desk.reload()
+    page.wait("el('continue').checkVisibility() && !el('continue').disabled")
+    press_button(desk, "continue")
+    page.wait(f"{SENT} === 'a' && pins.size === 1 && galluspa.source().isRunning")
+    expect("the note", page.answer("[...pins.values()]"), ["here it is"])
+    begin_empty(desk)
+    print("projects: one that was opened from a file is kept once a note is pinned in it")
+
+
 def project_in(file: bytes) -> dict[str, Any]:
     """Returns the project of an exported file."""
     found = re.search(rb'id="g-project">([^<]*)', file)
@@ -345,4 +369,4 @@ def teach(desk: Desk) -> None:
     print("projects: a lesson is written, exported, asked about and shown")
 
 
-TASKS = (fold_runs, list_hundred, export, refuse_hostile, open_false, teach)
+TASKS = (fold_runs, list_hundred, export, keep_noted, refuse_hostile, open_false, teach)
