@@ -674,7 +674,7 @@ interface FirstLine {
 }
 
 /** Where two runs with the same inputs part: at the same count, or null, and up to which count they are the same; and by the lines that both sources have, up to which
- * counts of each run these do the same, and pairs of counts of the two, each where their distance changes. */
+ * counts of each run these do the same, pairs of counts of the two, each where their distance changes, and whether the time was over before the runs were. */
 interface Parting {
   at: number | null;
   upTo: number;
@@ -682,6 +682,7 @@ interface Parting {
     first: (Omit<FirstLine, "goes"> & { place: LinePlace | null; goes: (LinePlace | null)[] }) | null;
     upTo: [number, number];
     shifts: [number, number][];
+    isLate: boolean;
   } | null;
 }
 
@@ -708,6 +709,7 @@ interface Requests {
   toCheckpoint: [{ fast: boolean; seconds: number }, void];
   takeOver: [Start | {}, { left: Whole | null; begun: Begun | null; fork: number }];
   setBreaks: [{ conditions: Condition[] }, void];
+  keepToo: [{}, void];
   change: [{ kind: number; changes: Change[] }, string | null];
   type: [Partial<Waiting>, { fork: number; first: Numbers } | string];
   cancelSerial: [{}, void];
@@ -746,9 +748,10 @@ interface Requests {
   judge: [{ source: string; file?: string; parts?: [string, string][]; claim: Wanted; seconds: number },
           { line: string | null; number: number; differing: [string, string, string][]; after: number | null } | null];
   seen: [{ bytes: Bytes }, Verdicted & { dots: Bytes }];
-  handIn: [{ model: Bytes; own: Bytes; parts: [string, string][]; seconds: number },
-           { line: string; counts: number[]; at: number | null; where: { file: string; line: number } | null } | null];
-  parting: [{ one: string; other: string; to: number; sources: [string, string][][] }, Parting | null];
+  handIn: [{ model: Bytes; own: Bytes; seconds: number }, (Verdicted & { counts: number[] }) | null];
+  handInParting: [{ model: Bytes; own: Bytes; sources: [string, string][][]; seconds: number },
+                  { at: number | null; lines: Parting["lines"]; where: LinePlace | null } | null];
+  parting: [{ one: string; other: string; to: number; sources: [string, string][][]; seconds: number }, Parting | null];
   inputs: [{}, { inputs: Input[]; count: number }];
   visits: [{ generation?: number; from: number; to: number }, Visited | null];
   calls: [{ generation?: number; request?: number; place: string; at: number }, Called | null];

@@ -29,9 +29,9 @@ async function assembled(desk, lines, inputs) {
 }
 
 /** Asks where the runs of two sources part. */
-async function parted(desk, one, other, to, inputs = []) {
+async function parted(desk, one, other, to, inputs = [], seconds = 60) {
   const [before, now] = [await assembled(desk, one, inputs), await assembled(desk, other, inputs)];
-  return { before, now, ...(await desk.live.ask("parting", { one: before.session, other: now.session, to, sources: [one, other].map((lines) => [["a.asm", lines.join("\n")]]) })) };
+  return { before, now, ...(await desk.live.ask("parting", { one: before.session, other: now.session, to, sources: [one, other].map((lines) => [["a.asm", lines.join("\n")]]), seconds })) };
 }
 
 /** What the first execution of a line does, and its count. */
@@ -113,4 +113,13 @@ async function alignKeys() {
   console.log(`lines: ${inputs.length} keys that come at any instruction of a loop, which has another length, make no difference`);
 }
 
-module.exports = [alignRandom, alignWaiting, alignKeys];
+/** A comparison that takes too long says up to where both do the same, also while both wait for the timer. */
+async function alignLate() {
+  const desk = new Desk(), begin = ["        rate 25000", "        MOV R9, TIMER"], loop = ["again:  LDR R5, R9, 0", "later:  LDR R6, R9, 0", "        SUB R6, R6, R5", "        BEQ later", "        B again"];
+  const { lines: found } = await parted(desk, [...begin, ...loop], [...begin, IDLE, ...loop], 2 ** 40, [], 3);
+  expect("what is known of a comparison that takes too long", [found.first, found.isLate, found.upTo.map((count) => count > 1000 && count < 2 ** 40)], [null, true, [true, true]]);
+  desk.end();
+  console.log(`lines: a comparison that takes too long says that both do the same up to ${found.upTo}`);
+}
+
+module.exports = [alignRandom, alignWaiting, alignKeys, alignLate];

@@ -143,6 +143,7 @@ def take_over(who: Person) -> tuple[int, int]:
     who.run_or_pause()
     who.type("n")
     who.run_or_pause()
+    who.page.wait("galluspa.work().kept.startsWith(`${galluspa.count()} `)")
     return old, who.count()
 
 

@@ -2,7 +2,9 @@
 
 import base64
 import re
+import tempfile
 import time
+from collections.abc import Mapping
 from functools import cache
 from pathlib import Path
 from typing import NoReturn
@@ -141,6 +143,14 @@ class Desk:
           dispatchEvent(new DragEvent("drop", {{ dataTransfer: data, cancelable: true }}));
         }})()"""
         )
+
+    def drop_together(self, files: Mapping[str, bytes]) -> None:
+        """Drags files over the screen and drops them there together."""
+        folder = Path(tempfile.mkdtemp(dir=self.folder))
+        for name, text in files.items():
+            (folder / name).write_bytes(text)
+        left, top, width = self.screen()
+        self.page.drop([folder / name for name in files], left + width / 2, top + width / 4)
 
     def start(self, name: str, text: bytes) -> None:
         """Opens a file, and waits until its machine is there."""

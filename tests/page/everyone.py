@@ -4,6 +4,7 @@ import re
 
 from tests.page.desk import NOTICE, SENT, Desk, expect, fail
 from tests.page.offers import type_goto
+from tests.page.projects import begin_empty
 from tests.page.source import open_source
 from tests.page.stops import press_button
 from tests.page.timeline import FACE, look_at, run_to_end
@@ -71,6 +72,20 @@ CUT = """
 }).map((it) => it.id || it.textContent)
 """
 
+# The controls that are seen and cannot be used.
+IDLE = """
+[...document.querySelectorAll("#galluspa :is(button, input, select, textarea)")].filter((it) => it.disabled && it.checkVisibility({ visibilityProperty: true })).map((it) => it.id || it.textContent)
+"""
+# Where that is which is seen beside the panels and has a name.
+PLACES = """
+Object.fromEntries([...document.querySelectorAll("#galluspa [id]")].filter((it) => it.checkVisibility({ visibilityProperty: true }) && it.offsetHeight > 1 && !it.closest(".unseen, .side > section")).map((it) => {
+  const { left, top } = it.getBoundingClientRect();
+  return [it.id, [Math.round(left), Math.round(top)]];
+}))
+"""
+# What a panel says until a machine is open.
+FIRST = {"code": "its instructions", "memory": "its bytes", "devices": "its LEDs", "log": "your notes"}
+
 
 # How strongly the axis of the timeline is drawn: the opacity of its strongest dot, of 255.
 AXIS = """
@@ -113,6 +128,75 @@ def look_first(desk: Desk) -> None:
     expect("the first card", page.answer(first), "g-continue")
     page.answer("forgetAll()")
     print("first sight: a game is played behind the cards until a key is pressed; Continue comes first")
+
+
+def places(desk: Desk) -> dict[tuple[int, int], dict[str, list[int]]]:
+    """Returns where everything is that is seen, by the sizes of the window."""
+    found = {}
+    for size in ((1400, 900), (1366, 625), (1024, 600), (800, 600), (400, 800)):
+        desk.page.resize(*size)
+        desk.page.answer(f"scrollTo(0, 0); {SETTLED}")
+        found[size] = desk.page.answer(PLACES)
+    return found
+
+
+def expect_places(what: str, before: dict[str, list[int]], after: dict[str, list[int]]) -> None:
+    """Expects all that is seen before and after something to be where it was."""
+    expect(f"what moved {what}", {it: (at, after[it]) for it, at in before.items() if it in after and at != after[it]}, {})
+
+
+def reserve_places(desk: Desk) -> None:
+    """Until a machine is open, nothing is seen that cannot be used, and a sentence says what will be there. Nothing moves when something is kept, or as a machine is opened;
+    on a phone, the cards below the screen give way to it."""
+    page = desk.page
+    begin_empty(desk)
+    for scheme in SCHEMES:
+        page.prefer(scheme)
+        for size in ((1366, 625), (400, 800)):
+            page.resize(*size)
+            for name in TABS:
+                page.answer(f"showTab({name!r})")
+                page.answer(SETTLED)
+                expect(f"what cannot be used of {name} at {size}, {scheme}", page.answer(IDLE), [])
+                expect(f"faint texts of {name} at {size}, {scheme}", page.answer(FAINT), [])
+                said = page.answer("document.getElementById('galluspa').innerText")
+                for text in (
+                    "The machine's time will be here",
+                    *([f"Once a machine is open, {FIRST[name]}"] if name in FIRST else []),
+                ):
+                    expect(f"whether {name} says {text!r}", text in said, True)
+                for text in ("Saved", "Continue", "EMPTY", "none"):
+                    expect(f"whether {name} says {text!r}", text in said, False)
+    page.prefer("light")
+    page.answer("showTab('state')")
+    fresh = places(desk)
+    page.resize(1366, 625)
+    press_button(desk, "draw")
+    page.wait("galluspa.frame()?.on && document.activeElement === el('screen')")
+    page.press("a")
+    page.wait(f"{SENT} === 'a' && galluspa.work().isStored && !galluspa.work().isNewer")
+    desk.click_on("el('kept').querySelector('summary')")
+    expect(
+        "what is said of a list without anything",
+        page.answer("el('kept').innerText.includes('Other projects will be here: ')"),
+        True,
+    )
+    desk.click_on("el('kept').querySelector('summary')")
+    opened = places(desk)
+    desk.reload()
+    page.wait("el('continue').checkVisibility() && !el('continue').disabled")
+    kept = places(desk)
+    for size, before in fresh.items():
+        expect_places(f"at {size} as something is kept", before, kept[size])
+        if size[0] > 400:
+            expect_places(f"at {size} as a machine is opened", before, opened[size])
+    page.answer("el('kept').open = true")
+    expect("whether a list says that it is empty", page.answer("el('kept-none').checkVisibility()"), False)
+    page.resize(1400, 900)
+    page.answer("forgetAll()")
+    print(
+        f"first sight: nothing that cannot be used; {len(fresh[1366, 625])} things stay where they are as something is kept or opened"
+    )
 
 
 def stops_of(desk: Desk, what: str) -> list[str]:
@@ -284,4 +368,4 @@ def know_sizes(desk: Desk) -> None:
     print(f"sizes: {len(used)} colours and sizes are used, and all are defined once")
 
 
-TASKS = (look_first, walk_stops, tell_parts, see_contrast, fit_fingers, fit_twice, tell_news, know_sizes)
+TASKS = (look_first, reserve_places, walk_stops, tell_parts, see_contrast, fit_fingers, fit_twice, tell_news, know_sizes)

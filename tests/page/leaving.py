@@ -11,7 +11,7 @@ from pathlib import Path
 
 from tests.page.closing import COUNT, HOLD_UP, KEPT, WORD, Person, begun
 from tests.page.desk import NOTICE, SENT, expect, fail
-from tests.page.source import DRAWS, drop_together
+from tests.page.source import DRAWS
 
 TEXT = "(document.querySelector('#g-source .text')?.textContent ?? '')"
 BRANCH = re.compile(r", branch (\d), of ")
@@ -310,7 +310,7 @@ def keep_several(folder: Path) -> None:
     """All sources of a program are kept: with their breakpoints, and with a machine that is run from them."""
     texts, breaks = {"draws.asm": ";Yes; Draws what", "dots.asm": ";Dots; Draws a word."}, {"draws.asm": "5", "dots.asm": "2"}
     with begun(folder) as who:
-        drop_together(who, {name: text.encode() for name, text in PARTS.items()})
+        who.drop_together({name: text.encode() for name, text in PARTS.items()})
         who.page.wait(f"{TEXT}.includes('Draws what is typed')")
         for file, text in texts.items():
             if file == "dots.asm":
@@ -349,7 +349,7 @@ def fill_with_several(folder: Path) -> None:
     texts, breaks = {"dots.asm": ";Less; Draws a word.", "draws.asm": ";More; Draws what"}, {"dots.asm": None, "draws.asm": None}
     with begun(folder) as who:
         who.page.limit_storage(1000)
-        drop_together(who, {name: text.encode() for name, text in PARTS.items()})
+        who.drop_together({name: text.encode() for name, text in PARTS.items()})
         who.page.wait(f"{TEXT}.includes('Draws what is typed')")
         write_first(who, ";More")
         wanted = (

@@ -8,6 +8,7 @@ from collections.abc import Callable, Mapping, Sequence
 from tests.page import (
     everyone,
     game,
+    handins,
     inputs,
     kept,
     layout,
@@ -51,7 +52,7 @@ PARTS: Mapping[str, Sequence[Task]] = {
     "everyone": everyone.TASKS,
     "replays": replays.TASKS,
     "playing": playing.TASKS,
-    "projects": projects.TASKS,
+    "projects": (*projects.TASKS, *handins.TASKS),
     "names": names.TASKS,
     "naming": naming.TASKS,
     "sending": sending.TASKS,

@@ -1,10 +1,10 @@
-"""Projects: the runs of a source are one entry of the list, a project is exported as one file and opened again, and files that are handed in are judged side by
-side."""
+"""Projects: the runs of a source are one entry of the list, and a project is exported as one file and opened again."""
 
 import base64
 import gzip
 import json
 import re
+from typing import Any
 
 from galluspa.commands.recording_of import recording_in
 from tests.page.desk import LONGEST_TASK_MS, NOTICE, REFUSED_LINE, SENT, Desk, expect, fail, program, shown
@@ -15,16 +15,6 @@ from tests.tools.samples import EXAMPLES
 ENTRIES = "[...el('kept-list').children].filter((it) => it.tagName === 'P').map((it) => it.textContent)"
 LABELS = "[...el('kept-list').children].filter((it) => it.tagName === 'BUTTON').map((it) => it.textContent)"
 ALL = "withKept('readonly', (store) => store.getAllKeys()).then((all) => all.length)"
-BOARD = "[...el('board').querySelectorAll('tr')].slice(1).map((row) => [...row.children].map((it) => it.textContent))"
-# The words of the board's heads that are in two lines.
-BROKEN = """
-[...el("board").querySelectorAll("th")].filter((it) => it.firstChild && it.checkVisibility()).flatMap((it) => it.textContent.split(" ").filter((word) => {
-  const range = document.createRange(), at = it.textContent.indexOf(word);
-  range.setStart(it.firstChild, at);
-  range.setEnd(it.firstChild, at + word.length);
-  return range.getClientRects().length > 1;
-}))
-"""
 # What is compared of a project that was exported: the count, the source, the breakpoints, the notes, the name, what was sent, and the line of the instruction.
 STATE = "[galluspa.cursor(), galluspa.count(), sourceField.text, [...breaks], [...pins], galluspa.work().name, el('out').textContent, currentPlace().line]"
 # Sends back each key.
@@ -212,6 +202,37 @@ def export(desk: Desk) -> None:
     print("projects: exported, accepted, opened as a page and by a drop, and kept once it goes on")
 
 
+def keep_noted(desk: Desk) -> None:
+    """A project that was opened from a file is kept once a note is pinned in it, though the page is loaded anew right after that."""
+    page = desk.page
+    begin_empty(desk)
+    open_source(desk, "echo.asm", ECHOES.format(more=0))
+    run_with_key(desk, "a")
+    file = exported(desk, "echo")
+    begin_empty(desk)
+    desk.drop("echo.html", file)
+    page.wait(f"galluspa.frame() && galluspa.source().isRunning && {SENT} === 'a'")
+    press_button(desk, "tab-log")
+    press_button(desk, "note")
+    page.insert("here it is")
+    page.press("Enter")
+    page.wait("pins.size === 1 && galluspa.frame().hasOwn")
+    desk.reload()
+    page.wait("el('continue').checkVisibility() && !el('continue').disabled")
+    press_button(desk, "continue")
+    page.wait(f"{SENT} === 'a' && pins.size === 1 && galluspa.source().isRunning")
+    expect("the note", page.answer("[...pins.values()]"), ["here it is"])
+    begin_empty(desk)
+    print("projects: one that was opened from a file is kept once a note is pinned in it")
+
+
+def project_in(file: bytes) -> dict[str, Any]:
+    """Returns the project of an exported file."""
+    found = re.search(rb'id="g-project">([^<]*)', file)
+    project: dict[str, Any] = json.loads(gzip.decompress(base64.b64decode(found[1]))) if found else {}
+    return project
+
+
 def exported_with(file: bytes, project: bytes | None = None, recording: bytes | None = None) -> bytes:
     """Returns an exported file with another project or another recording in it."""
     for name, content in (("project", project), ("recording", recording)):
@@ -228,8 +249,7 @@ def refuse_hostile(desk: Desk) -> None:
     open_source(desk, "echo.asm", ECHOES.format(more=0))
     run_with_key(desk, "a")
     file = exported(desk, "echo")
-    found = re.search(rb'id="g-project">([^<]*)', file)
-    project = json.loads(gzip.decompress(base64.b64decode(found[1]))) if found else {}
+    project = project_in(file)
     recording = recording_in("echo.html", file)
     bomb = gzip.compress(bytes(120_000_000), 1)
     cases: list[tuple[bytes, str]] = [
@@ -318,53 +338,6 @@ def open_false(desk: Desk) -> None:
     print("projects: one with a false recording opens at its beginning, with its verdict")
 
 
-def hand_in(desk: Desk) -> None:
-    """Several exported files come to a board: each has a picture, the verdict on its recording, what the model's checkpoints say of it, and where it parts from the
-    model, by count and line; one that is refused says so, and a click opens one."""
-    page = desk.page
-    begin_empty(desk)
-    files: dict[str, bytes] = {}
-    for name, more in (("model", 0), ("same", 0), ("other", 1)):
-        open_source(desk, f"{name}.asm", ECHOES.format(more=more))
-        run_with_key(desk, "a")
-        files[f"{name}.html"] = exported(desk, name)
-    files["broken.html"] = b"<!doctype html><p>"
-    content = json.dumps({name: base64.b64encode(text).decode() for name, text in files.items()})
-    page.answer(
-        f"""(() => {{
-      const data = new DataTransfer();
-      for (const [name, text] of Object.entries({content})) data.items.add(new File([Uint8Array.from(atob(text), (it) => it.charCodeAt(0))], name));
-      dispatchEvent(new DragEvent("drop", {{ dataTransfer: data, cancelable: true }}));
-    }})()"""
-    )
-    page.wait(f"el('board').open && ({BOARD}).length === 4 && board.model && !board.worker")
-    rows = page.answer(BOARD)
-    expect("the row of the model", rows[0][3:5], ["the model", ""])
-    expect("the row of the same program", rows[1][3:5], ["the same at all 1 checkpoint", "nowhere"])
-    if not re.fullmatch(r"not the same at checkpoint 1 of 1, at [\d,]+: .*", rows[2][3]):
-        fail(f"the row of another program: {rows[2]}")
-    if not re.fullmatch(r"at [\d,]+, after line 6 of other\.asm", rows[2][4]):
-        fail(f"where another program parts: {rows[2]}")
-    expect(
-        "the row of what is refused",
-        rows[3][2],
-        "refused: no recording in this page: Export makes pages with one, and so does Save a report",
-    )
-    expect("the pictures", page.answer("el('board').querySelectorAll('canvas').length"), 3)
-    for width, height in ((1400, 900), (800, 600), (400, 800)):
-        page.resize(width, height)
-        expect(
-            f"whether the board is as wide as its window at {width}",
-            page.answer("el('board').scrollWidth <= el('board').clientWidth"),
-            True,
-        )
-        expect(f"words of its heads that are broken at {width}", page.answer(BROKEN), [])
-    page.resize(1400, 900)
-    desk.click_on("[...el('board').querySelectorAll('button')].find((it) => it.textContent === 'other')")
-    page.wait("!el('board').open && galluspa.work().name === 'other' && galluspa.source().isRunning")
-    print("projects: a board of hand-ins, by a model's checkpoints, with where they part; one is opened")
-
-
 def teach(desk: Desk) -> None:
     """A lesson is written in the page, exported with its project, asked about before it is shown, and its claims judge what is handed in."""
     page = desk.page
@@ -396,4 +369,4 @@ def teach(desk: Desk) -> None:
     print("projects: a lesson is written, exported, asked about and shown")
 
 
-TASKS = (fold_runs, list_hundred, export, refuse_hostile, open_false, hand_in, teach)
+TASKS = (fold_runs, list_hundred, export, keep_noted, refuse_hostile, open_false, teach)

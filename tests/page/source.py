@@ -3,8 +3,6 @@
 Its tasks share the helpers and the programs at its head, so it is one module of more than 400 lines.
 """
 
-import base64
-import json
 import re
 import time
 
@@ -362,7 +360,7 @@ def run_parts(desk: Desk) -> None:
     page = desk.page
     forget_sources(desk)
     files = {path.name: path.read_text() for path in sorted((EXAMPLES / "frames").glob("*.asm"))}
-    drop_together(desk, {name: text.encode() for name, text in files.items()})
+    desk.drop_together({name: text.encode() for name, text in files.items()})
     page.wait(f"{ASSEMBLED} && {SAID}.endsWith(' and 2 more files: 81 words, 0 problems')")
     page.answer("el('source-part').focus()")
     page.press("s")
@@ -592,7 +590,7 @@ def keep(desk: Desk) -> None:
     expect("the source that is saved", source, text.rstrip("\n") + "\n" if not text.endswith("\n") else text)
     desk.reload()
     files = {"it.orsr": recording, "program.asm": source.encode()}
-    drop_together(desk, files)
+    desk.drop_together(files)
     # The names are read once the program is known.
     page.wait("galluspa.source().isRunning && galluspa.file() && placeText(4) === 'kept'")
     print("source: kept with its undo, listed, saved, and opened again with its recording")
@@ -610,18 +608,6 @@ def write_at_once(desk: Desk) -> None:
     # What comes after its word are zeros, up to the end of memory.
     page.wait(f"{WORD} === 'STOPPED' && galluspa.shownCount() === 262144")
     print("source: what is typed into the empty tab is assembled, and runs")
-
-
-def drop_together(desk: Desk, files: dict[str, bytes]) -> None:
-    """Drops several files on the page at once."""
-    contents = {name: base64.b64encode(content).decode() for name, content in files.items()}
-    desk.page.answer(
-        f"""(() => {{
-          const data = new DataTransfer();
-          for (const [name, content] of Object.entries({json.dumps(contents)})) data.items.add(new File([Uint8Array.from(atob(content), (it) => it.charCodeAt(0))], name));
-          dispatchEvent(new DragEvent("drop", {{ dataTransfer: data, cancelable: true }}));
-        }})()"""
-    )
 
 
 TASKS = (

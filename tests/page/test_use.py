@@ -6,7 +6,7 @@ from typing import Any
 
 import pytest
 
-from tests.page import closing, leaving, served
+from tests.page import closing, leaving, served, twotabs
 from tests.page.desks import Desks
 from tests.page.parts import PARTS, Task
 
@@ -36,7 +36,11 @@ def test_task(desks: Desks, part: str, task: Task) -> None:
 
 
 @pytest.mark.parametrize(
-    "task", [pytest.param(task, id=task.__name__, marks=pytest.mark.part("closing")) for task in (*closing.TASKS, *leaving.TASKS)]
+    "task",
+    [
+        pytest.param(task, id=task.__name__, marks=pytest.mark.part("closing"))
+        for task in (*closing.TASKS, *leaving.TASKS, *twotabs.TASKS)
+    ],
 )
 def test_closing(desks: Desks, task: Callable[[Path], None], tmp_path: Path) -> None:
     """What a person made is there again, however the page ends: each with a profile of its own."""

@@ -13,7 +13,7 @@ import select
 import subprocess
 import tempfile
 import time
-from collections.abc import Iterator
+from collections.abc import Iterator, Sequence
 from contextlib import contextmanager
 from dataclasses import dataclass
 from pathlib import Path
@@ -259,6 +259,12 @@ class Page:
         node = self._ask("DOM.querySelector", nodeId=root, selector=selector)["nodeId"]
         self._ask("DOM.setFileInputFiles", nodeId=node, files=[str(path.resolve())])
 
+    def drop(self, paths: Sequence[Path], x: float, y: float) -> None:
+        """Drags files over a place, and drops them there."""
+        data = {"items": [], "files": [str(path.resolve()) for path in paths], "dragOperationsMask": 1}
+        for kind in ("dragEnter", "dragOver", "drop"):
+            self._ask("Input.dispatchDragEvent", type=kind, x=x, y=y, data=data)
+
     def point(self, kind: str, x: float, y: float, buttons: int = 0) -> None:
         """Moves the mouse (`mouseMoved`), or presses or releases its left key (`mousePressed`, `mouseReleased`)."""
         button: dict[str, object] = {"button": "none"} if kind == "mouseMoved" else {"button": "left", "clickCount": 1}
@@ -348,6 +354,22 @@ class Page:
         """Loads the page anew."""
         self._ask("Page.reload")
         self._wait_for_load()
+
+    def begin_with(self, script: str) -> None:
+        """Runs a script before all others in what the page loads from here on."""
+        self._ask("Page.addScriptToEvaluateOnNewDocument", source=script)
+
+    def show(self) -> None:
+        """Puts the page in front of the other tabs, which are hidden."""
+        self._ask("Page.bringToFront")
+
+    def crash(self) -> None:
+        """Ends the page's process, which has no time to do anything more."""
+        self._pipe.send({"method": "Page.crash", "params": {}, "sessionId": self._session})
+        while self._pipe.receive().get("method") != "Inspector.targetCrashed":
+            pass
+        self._pipe.pages.remove(self)
+        self._copy.cleanup()
 
     def is_kept_open(self) -> bool:
         """Loads the page anew, and answers no if the browser asks. Returns whether it asked, so that the page is still open."""

@@ -9,8 +9,8 @@ import { hex, MEMORY_BYTES, WORDS } from "../formats/states.js";
 // The instructions of one call of the library; the most heads of loops that are remembered; the longest round that is found, in instructions; and the fewest effects
 // that are made ready at once.
 const AT_ONCE = 8192, MOST_HEADS = 8, LONGEST_ROUND = 4096, READY_AT_ONCE = 256;
-// The most changes of the distance of the two runs that are returned; and the number of effects between two tests of the time limit.
-const MOST_SHIFTS = 1000, SEEN_AFTER = 4096;
+// The most changes of the distance of the two runs that are returned.
+const MOST_SHIFTS = 1000;
 // Where the words of a record have what is compared, and what an instruction does.
 const RECORD = RECORD_BYTES / 4, R = 2, PC = 19, STOP = 21, LEDS = 26, SERIAL = 28, KEYS = 29, STATE = 34, INPUTS = 36, WORD = 38, ADDRESS = 39, OLD = 40, NEW = 41, SENT = 42, FLAGS = 43;
 const TIMER_ADDRESS = 0xffffc0, SERIAL_ADDRESS = 0xffffc8, KEY_ADDRESS = 0xffffdc, LINK = 15;
@@ -43,22 +43,26 @@ class Side {
    * @param {Memory} from
    * @param {Inputs} inputs
    * @param {number} to
-   * @param {Uint8Array} isMatched */
-  constructor(machine, from, inputs, to, isMatched) {
+   * @param {Uint8Array} isMatched
+   * @param {() => boolean} isLate */
+  constructor(machine, from, inputs, to, isMatched, isLate) {
     machine.put(machine.address, from);
     this.machine = machine;
     this.inputs = inputs;
     this.to = to;
     this.isMatched = isMatched;
+    this.isLate = isLate;
   }
 
-  /** Returns what the next instruction of a matched line did; null at the end of the run.
+  /** Returns what the next instruction of a matched line did; null at the end of the run, or where it is late.
    * @param {() => Promise<void>} turn */
   async next(turn) {
     while (this.taken === this.ready.length) {
       if (this.isOver) return null;
       this.ready.length = this.taken = 0;
-      this.read();
+      // What a machine did before it stopped is all read, so that it is known that it did no more.
+      if (this.isLate() && !this.machine.part("stop")) this.end();
+      else this.read();
       await turn();
     }
     return this.ready[this.taken++];
@@ -231,27 +235,31 @@ class Addresses {
 }
 
 /** Returns the first matched line whose instruction does something else in the one run than in the other, or after which they go to different lines; or null, and up to
- * which counts they do the same. Both runs begin with the same registers and devices. It ends when it is `late`, as performance.now() says it.
+ * which counts they do the same. It ends early once `isLate` says so, which receives up to which counts they did the same. Both runs begin with the same registers and
+ * devices.
  * @param {[import("./emulator.js").Emulator, import("./emulator.js").Emulator]} machines
  * @param {[Memory, Memory]} from
- * @param {{ inputs: Inputs, to: number, matched: Matched[], ends: [number, number], late: number }} given
+ * @param {{ inputs: Inputs, to: number, matched: Matched[], ends: [number, number], isLate: (upTo: [number, number]) => boolean }} given
  * @param {() => Promise<void>} turn
- * @returns {Promise<{ first: FirstLine | null, upTo: [number, number], shifts: [number, number][] }>} */
-export async function firstLine(machines, from, { inputs, to, matched, ends, late }, turn) {
+ * @returns {Promise<{ first: FirstLine | null, upTo: [number, number], shifts: [number, number][], isLate: boolean }>} */
+export async function firstLine(machines, from, { inputs, to, matched, ends, isLate }, turn) {
   const code = matched.filter(({ isCode }) => isCode), lines = new Map(code.map((one) => [one.here / 4, one])), others = new Map(code.map((one) => [one.to / 4, one]));
-  const sides = [lines, others].map((words, at) => new Side(machines[at], from[at], inputs, to, placesOf(words)));
-  const addresses = new Addresses(matched, ends), counts = /** @type {[number, number]} */ (machines.map(({ count }) => count)), shifts = [counts];
+  let now = /** @type {[number, number]} */ ([0, 0]), wasLate = false;
+  const late = () => (wasLate ||= isLate(now)), sides = [lines, others].map((words, at) => new Side(machines[at], from[at], inputs, to, placesOf(words), late));
+  now = [machines[0].count, machines[1].count];
+  const addresses = new Addresses(matched, ends), shifts = [now];
   /** @type {Matched | null} */
   let before = null;
-  for (let seen = 1; ; seen++) {
-    const one = await sides[0].next(turn), other = await sides[1].next(turn), now = /** @type {[number, number]} */ ([one?.count ?? sides[0].upTo, other?.count ?? sides[1].upTo]);
+  for (;;) {
+    const one = await sides[0].next(turn), other = await sides[1].next(turn);
+    now = [one?.count ?? sides[0].upTo, other?.count ?? sides[1].upTo];
     const isOver = !one || !other, line = one && lines.get(one.pc), goes = /** @type {[number, number]} */ ([line?.line ?? 0, (other && others.get(other.pc)?.other) ?? 0]);
-    const isStop = isOver && one !== other && machines.some((machine, at) => !goes[at] && machine.part("stop"));
-    if ((isOver && !isStop) || (seen % SEEN_AFTER === 0 && performance.now() > late)) return { first: null, upTo: now, shifts };
+    const isStop = isOver && one !== other && machines.some((machine, at) => !goes[at] && machine.part("stop")), all = { upTo: now, shifts, isLate: wasLate };
+    if (isOver && !isStop) return { first: null, ...all };
     const [first, second] = shifts[shifts.length - 1];
     if (now[0] - first !== now[1] - second && shifts.length < MOST_SHIFTS) shifts.push(now);
-    if (isOver || line?.to !== 4 * other.pc) return { first: { line: before?.other ?? 0, counts: now, did: null, goes }, upTo: now, shifts };
-    if (!isSame(one, other, addresses)) return { first: { line: line.other, counts: now, did: [textOf(one), textOf(other)], goes }, upTo: now, shifts };
+    if (isOver || line?.to !== 4 * other.pc) return { first: { line: before?.other ?? 0, counts: now, did: null, goes }, ...all };
+    if (!isSame(one, other, addresses)) return { first: { line: line.other, counts: now, did: [textOf(one), textOf(other)], goes }, ...all };
     before = line;
   }
 }

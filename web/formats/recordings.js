@@ -3,8 +3,7 @@
  * its inputs. */
 import { Inputs } from "./inputs.js";
 import { CHANGE_BYTES, CLAIM, HEADER, HEADER_BYTES, INPUT_BYTES, TABLE_CLAIM_BYTES } from "./layout.js";
-import { PAGE_BYTES } from "./states.js";
-
+import { joined, PAGE_BYTES, sentText } from "./states.js";
 
 /** Reads a valid recording: its inputs, and for each checkpoint its offset, its count and the bytes sent since the one before.
  * @param {Bytes} bytes
@@ -26,3 +25,7 @@ export function readRecording(bytes) {
   claims.forEach((claim, number) => (claim.sent = bytes.subarray(at, (at += lengths[number]))));
   return { bytes, version, pages, claims, inputs: new Inputs(bytes.subarray(inputsAt, inputsAt + INPUT_BYTES * inputs)) };
 }
+
+/** Returns what was sent up to the last checkpoint of a valid recording, as the page shows it.
+ * @param {Bytes} bytes */
+export const sentIn = (bytes) => sentText(joined(readRecording(bytes).claims.map(({ sent }) => sent)));

@@ -158,8 +158,8 @@ function keepNews() {
 export async function keepAtOnce(isLeaving = false) {
   const { work } = app, { news, since } = work;
   if (!isUnsafe() || !since || !storage.connection) return;
-  if (!work.isStored) Object.assign(work, { id: work.id ?? Date.now(), by: writer });
-  const id = Number(work.id);
+  if (!work.isStored) work.by = writer;
+  const id = (work.id ??= newId(work));
   if (work.isStored) await writtenAtOnce([{ id: sinceId(id), of: id, by: work.by, changedAt: Date.now(), ...since }], { isLeaving });
   else {
     const { item, about } = wholeRecords({ id, by: work.by, ...labelsOf(work), sent: "", ...work.wholeWith(since) });
@@ -167,6 +167,14 @@ export async function keepAtOnce(isLeaving = false) {
     await writtenAtOnce([item, about], { gone: [sinceId(id)], isLeaving });
   }
   work.safe = Math.max(work.safe, news);
+}
+
+/** Returns the id of a new item, which is there at once; the work takes it as soon as the browser answers, so that no other page goes on with it.
+ * @param {Work} work */
+function newId(work) {
+  const id = Date.now();
+  inTurn(() => work.take(id));
+  return id;
 }
 
 /** Returns what the browser keeps beside a machine, with what is looked at now.
@@ -184,11 +192,18 @@ export function keepDeskSoon() {
   }, SOON_MS);
 }
 
-/** Keeps what is looked at, beside a recording that is kept already, if that is another than was kept: breakpoints, watches, notes and the cursor.
+/** Keeps what is looked at, beside a recording that is kept already, if that is another than was kept: breakpoints, watches, notes and the cursor. A recording that is
+ * not kept yet, as that of a copy, is kept with them.
  * @param {boolean} isLeaving */
 export async function keepDesk(isLeaving = false) {
   const { work, latest } = app, { about } = work, { desk } = labelsOf(work);
-  if (!about || !latest?.hasOwn || !storage.connection || JSON.stringify(about.desk) === JSON.stringify(desk)) return;
+  if (!latest?.hasOwn || !storage.connection) return;
+  if (!about) {
+    if (!(breaks.size + watches.length + pins.size)) return;
+    noteNew(work);
+    return isLeaving ? keepAtOnce(true) : undefined;
+  }
+  if (JSON.stringify(about.desk) === JSON.stringify(desk)) return;
   const written = (work.about = { ...about, desk, changedAt: Date.now() });
   try {
     await writtenAtOnce([written], { isLeaving });

@@ -44,7 +44,8 @@ function connected(connection) {
   return connection;
 }
 
-/** Writes what a page logged while it was left, where nothing was written later. What is asked of the connection after this comes after it.
+/** Writes what a page logged while it was left, where nothing was written later. What is asked of the connection after this comes after it. Another page may be left at
+ * any time, so what is read comes after this.
  * @param {IDBDatabase} connection */
 function writeLogged(connection) {
   for (const { put, gone, forget } of loggedGroups()) {
@@ -75,7 +76,9 @@ const timeOf = (record) => Number(record?.changedAt ?? record?.at ?? 0) || 0;
  * @param {(store: IDBObjectStore) => IDBRequest} task
  * @returns {Promise<any>} */
 export async function withKept(mode, task) {
-  return transacted((await database()).transaction(ITEMS, mode), task);
+  const connection = await database();
+  if (mode === "readonly") writeLogged(connection);
+  return transacted(connection.transaction(ITEMS, mode), task);
 }
 
 /**

@@ -13,23 +13,24 @@ import { linesOfParts } from "../assembler/parts.js";
 import { Refused } from "../formats/refused.js";
 import { settingsOf } from "../assembler/settings.js";
 import { library, machine } from "./context.js";
-import { DISPLAY_AT, DISPLAY_BYTES, last } from "../formats/states.js";
+import { DISPLAY_AT, DISPLAY_BYTES, equal, last, MEMORY_BYTES } from "../formats/states.js";
 import { Ended, nextTask, unlessEnded } from "../engine/tasks.js";
 import { linesOf, writtenSession, writtenSymbols } from "../assembler/written.js";
 
 // How many problems are posted at most.
-const MOST_PROBLEMS = 1000, STEP_MS = 20, PARTING_SECONDS = 120, LINES_MS = 60000;
+const MOST_PROBLEMS = 1000, STEP_MS = 20, PARTING_SECONDS = 120, POST_MS = 500;
 // The number of the newest session that is made: it ends the ones before.
 let newest = 0;
 
 /** @typedef {import("../assembler/assembly.js").Problem} Problem */
+/** @typedef {import("../assembler/assembly.js").Assembly} Assembly */
 
 /** Returns the lines of what is assembled: of several sources, or of one.
  * @param {{ source: string, file?: string, parts?: [string, string][] }} given */
 const linesGiven = ({ source, file = "", parts = [[file, source]] }) => linesOfParts(parts);
 
 /** Returns problems in the order of their places, each once, with how many there are.
- * @param {import("../assembler/assembly.js").Assembly} made */
+ * @param {Assembly} made */
 function sorted({ problems, places }) {
   const order = (/** @type {Problem} */ one, /** @type {Problem} */ other) =>
     one.line - other.line || one.column - other.column || (one.text < other.text ? -1 : Number(one.text > other.text));
@@ -58,14 +59,14 @@ function assemble(given) {
   return { problems: [], number: 0, program };
 }
 
-/** Returns what is awaited between the pieces of something long: it lets others go first, and ends it after some seconds, or if something newer
- * is asked for.
+/** Returns what is awaited between the pieces of something long: it lets others go first, and ends it after some seconds, unless it is not limited, or if something
+ * newer is asked for.
  * @param {number} seconds */
 function turnsOf(seconds) {
   const own = ++newest, begun = performance.now();
   let waited = begun;
-  return async () => {
-    if (performance.now() - begun > 1000 * seconds) throw new Refused(`no answer in ${seconds} s`);
+  return async (isLimited = true) => {
+    if (isLimited && performance.now() - begun > 1000 * seconds) throw new Refused(`no answer in ${seconds} s`);
     if (performance.now() - waited > STEP_MS) await nextTask(), (waited = performance.now());
     if (own !== newest) throw new Ended();
   };
@@ -75,21 +76,32 @@ function turnsOf(seconds) {
 /** @type {Emulator | null} */
 let second = null;
 
-/** Finds where two sessions part, which have the same inputs; and the first line that both sources have which does something else in the one than in the other.
- * @param {Requests["parting"][0]} given
+/** Finds where two sessions part, which have the same inputs; and, if both have a program, the first line that both sources have which does something else in the one
+ * than in the other, until `isLate` says that this takes too long.
+ * @param {Session[]} sessions
+ * @param {(Assembly | null)[]} programs
+ * @param {number} to
+ * @param {(isLimited?: boolean) => Promise<void>} turn
+ * @param {(upTo: [number, number]) => boolean} isLate
  * @returns {Promise<Parting>} */
-async function parting({ one, other, to, sources }) {
-  const [first, later] = [one, other].map((session) => readSession(new TextEncoder().encode(session))), turn = turnsOf(PARTING_SECONDS);
+async function partingBy([one, other], [before, now], to, turn, isLate) {
   second ??= new Emulator(machine.library);
-  const { at, upTo, both } = await partingOf([machine, second], first, later, to, turn);
-  if (at === null) return { at, upTo, lines: null };
-  const [before, now] = sources.map((parts) => assembled(linesOfParts(parts))), late = performance.now() + LINES_MS;
-  const given = { inputs: first.inputs, to, matched: matchedStatements(before, now), ends: /** @type {[number, number]} */ ([before.memory.length, now.memory.length]), late };
-  const found = await firstLine([machine, second], both, given, turn);
-  /** @type {(line: number, of: import("../assembler/assembly.js").Assembly) => LinePlace | null} */
+  const { at, upTo, both } = await partingOf([machine, second], one, other, to, turn);
+  if (at === null || !before || !now) return { at, upTo, lines: null };
+  const given = { inputs: one.inputs, to, matched: matchedStatements(before, now), ends: /** @type {[number, number]} */ ([before.memory.length, now.memory.length]), isLate };
+  const found = await firstLine([machine, second], both, given, () => turn(false));
+  /** @type {(line: number, of: Assembly) => LinePlace | null} */
   const placeOf = (line, { places }) => (line ? { file: places[line - 1].file, line: places[line - 1].line } : null);
   const line = found.first && { ...found.first, place: placeOf(found.first.line, now), goes: found.first.goes.map((to, which) => placeOf(to, which ? now : before)) };
   return { at, upTo, lines: { ...found, first: line } };
+}
+
+/** Finds where the runs of two sources part, each as its session has it. Their lines are compared for some seconds at most.
+ * @param {Requests["parting"][0]} given */
+function parting({ one, other, to, sources, seconds }) {
+  const sessions = [one, other].map((session) => readSession(new TextEncoder().encode(session))), programs = sources.map((parts) => assembled(linesOfParts(parts)));
+  let end = 0;
+  return partingBy(sessions, programs, to, turnsOf(PARTING_SECONDS), () => performance.now() > (end ||= performance.now() + 1000 * seconds));
 }
 
 /** Judges a program by what a lesson wants: the verdict line of a recording that claims it, what differs, and after which line of the source.
@@ -102,19 +114,40 @@ async function judge({ claim, seconds, ...given }) {
   return { line, number: 0, differing, after: linesOf(made).find(([address]) => address === 4 * pc)?.[1] ?? null };
 }
 
-/** Judges what was handed in by the run of a model: what is seen of it at the model's checkpoints, and the first count at which the two part, with the line of the
- * instruction before that.
- * @param {Requests["handIn"][0]} given
- * @returns {Promise<Requests["handIn"][1]>} */
-async function handIn({ model, own, parts, seconds }) {
-  second ??= new Emulator(machine.library);
-  const turn = turnsOf(seconds), recording = machine.lawful(model), first = machine.firstOf(own), { inputs, claims } = recording, to = last(claims).count;
-  const { line, counts } = await judgedByModel(machine, first, recording, turn), { at } = await partingOf([machine, second], { ...machine.firstOf(model), inputs, checkpoints: [] }, { ...first, inputs, checkpoints: [] }, to, turn);
-  if (!at) return { line, counts, at, where: null };
-  machine.put(machine.address, first);
+/** Judges what was handed in by the run of a model: what is seen of it at the model's checkpoints.
+ * @param {Requests["handIn"][0]} given */
+const handIn = ({ model, own, seconds }) => judgedByModel(machine, machine.firstOf(own), machine.lawful(model), turnsOf(seconds));
+
+/** Finds where what was handed in parts from a model: by the lines of their sources, if both recordings begin with the programs of these; else at a count, with the line
+ * of the instruction before that. Up to which count both are the same so far is posted by time.
+ * @param {Requests["handInParting"][0]} given
+ * @returns {Promise<Requests["handInParting"][1]>} */
+async function handInParting({ model, own, sources, seconds }) {
+  const turn = turnsOf(seconds), end = performance.now() + 1000 * seconds, { inputs, claims } = machine.lawful(model), to = last(claims).count;
+  const sessions = [model, own].map((bytes) => ({ ...machine.firstOf(bytes), inputs, checkpoints: [] })), programs = sources.map((parts, at) => programOf(parts, sessions[at]));
+  let posted = performance.now();
+  const isLate = (/** @type {number} */ sameUpTo) => {
+    const now = performance.now();
+    if (now - posted > POST_MS) postMessage({ sameUpTo }), (posted = now);
+    return now > end;
+  };
+  const heard = (isLimited = true) => (isLimited && isLate(machine.count), turn(isLimited));
+  const { at, lines } = await partingBy(sessions, programs, to, heard, ([, sameUpTo]) => isLate(sameUpTo)), [, program] = programs;
+  if (lines || !at || !program) return { at, lines, where: null };
+  machine.put(machine.address, sessions[1]);
   await runTo(machine, inputs, at - 1, turn);
-  const pc = 4 * machine.part("PC"), made = parts.length ? assembled(linesOfParts(parts)) : null, place = made && !made.problems.length ? linesOf(made).find(([address]) => address === pc) : null;
-  return { line, counts, at, where: place ? { file: place[2], line: place[1] } : null };
+  const pc = 4 * machine.part("PC"), place = linesOf(program).find(([address]) => address === pc);
+  return { at, lines, where: place ? { file: place[2], line: place[1] } : null };
+}
+
+/** Returns the program of sources, if a memory is that; else null.
+ * @param {[string, string][]} parts
+ * @param {Memory} memory */
+function programOf(parts, { words }) {
+  const made = parts.length ? assembled(linesOfParts(parts)) : null, whole = new Uint8Array(MEMORY_BYTES);
+  if (!made || made.problems.length) return null;
+  whole.set(made.memory);
+  return equal(whole, words) ? made : null;
 }
 
 /** Returns the screen that the last checkpoint of a recording claims, and the verdict of one call over all of it.
@@ -145,6 +178,7 @@ export const ASSEMBLER = {
   parting: (/** @type {Requests["parting"][0]} */ given) => parting(given).catch(unlessEnded(null)),
   seen,
   handIn: (/** @type {Requests["handIn"][0]} */ given) => handIn(given).catch(unlessEnded(null)),
+  handInParting: (/** @type {Requests["handInParting"][0]} */ given) => handInParting(given).catch(unlessEnded(null)),
   judge: (/** @type {Requests["judge"][0]} */ given) => judge(given).catch(unlessEnded(null)),
   /** Ends what is made. */
   endSession() {

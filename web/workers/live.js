@@ -107,6 +107,11 @@ export const LIVE = {
     const shown = () => (show(NOTHING, at !== undefined), { left, begun: begunLive(), fork });
     return feed ? feed.cut().then(shown) : shown();
   },
+  /** Has the browser keep the machine, though nothing came for it: something was done beside it. */
+  keepToo() {
+    machine.isAlwaysKept = true;
+    show(NOTHING);
+  },
   /** Reports to the past of this machine through a port from now on.
    * @param {{ port: MessagePort }} given */
   connect({ port }) {

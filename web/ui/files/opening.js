@@ -296,7 +296,6 @@ export function showOpened(opened, work, others) {
   closeMenus();
   el("claims").hidden = !claims;
   el("pad").hidden = !isSnake();
-  el("report").hidden = false;
   beginGame();
   for (const name of ["run", "step", "line-over", "line-out", "save-session", "save-recording", "save-screen", "find-before", "find-next", "writer-leds"]) set(name, { disabled: false });
   if (claims) el("claim-number").max = `${checkpoints}`;

@@ -10,10 +10,10 @@ import { unpacked } from "../../host/packed.js";
 import { readExported, readParts } from "./projectfile.js";
 import { Helper, Refusal } from "../../host/requests.js";
 import { offerLesson } from "../source/lessons.js";
-import { readRecording } from "../../formats/recordings.js";
+import { readRecording, sentIn } from "../../formats/recordings.js";
 import { showSources, takeSources } from "../source/source.js";
 import { beginSource, nameProject } from "../source/sourceautosave.js";
-import { joined, last, sentText } from "../../formats/states.js";
+import { last } from "../../formats/states.js";
 import { openSymbols } from "../code/symbolfiles.js";
 import { noteChecked } from "../timeline/timeline.js";
 import { verdicts } from "../screen/verdicts.js";
@@ -78,8 +78,7 @@ async function openProject(project, recording) {
  * @param {Work[]} list */
 async function resumeRun({ name, number }, recording, list) {
   if (!(await mayLeave())) return false;
-  const { claims } = readRecording(recording), opened = wholeOf(recording), answer = await app.live.ask("resume", { kept: { name, sent: "", ...opened }, isOfFile: true });
-  const work = new Work(name, { ...answer, sent: sentText(joined(claims.map(({ sent }) => sent))) });
+  const opened = wholeOf(recording), answer = await app.live.ask("resume", { kept: { name, sent: "", ...opened }, isOfFile: true }), work = new Work(name, { ...answer, sent: sentIn(recording) });
   const [{ family, parent } = work] = list, made = Math.max(number, ...list.map((one) => one.number));
   showOpened(answer, Object.assign(work, { number, family, parent, opened, end: opened.count }), list.length ? { list, made } : NO_BRANCHES);
   return true;

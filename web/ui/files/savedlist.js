@@ -15,6 +15,7 @@ import { headOf, nameOf, partsOf, projectsOf } from "../../host/projects.js";
 import { Refusal } from "../../host/requests.js";
 import { smallPicture } from "../screen/screen.js";
 import { isPast, nowCount } from "../../host/shown.js";
+import { sentIn } from "../../formats/recordings.js";
 import { resumeProgram } from "../source/source.js";
 import { bringBackSources, openKept, openSourceId, renameProject, sourceSummaries, takeUnwritten } from "../source/sourceautosave.js";
 import { deleteStorage, withKept } from "../../host/storage.js";
@@ -54,6 +55,7 @@ export async function showKept() {
   offerToContinue(projects.filter((project) => headOf(project).isReadable), goOnWith);
   write("kept-number", `${items.length || "none"}`);
   showOpen();
+  set("kept-none", { hidden: items.length + deleted.size > 0 });
   el("kept").hidden = !items.length && !deleted.size && !app.work.generation;
   el("kept-list").replaceChildren(...[...[...deleted].map(deletedItem), ...items].flat());
 }
@@ -217,7 +219,8 @@ export async function resumed(work, id, branchesOf) {
     const others = await branchesOf(kept), answer = await app.live.ask("resume", { kept });
     const { family, number = 1, parent = 0, until = kept.count, by = work.by, ran, pinned: isPinned = false } = kept, { generation, fork, program } = answer;
     Object.assign(work, { name: nameIn(kept), generation, fork, program, family, number, parent, by, ran, isPinned, about, journals: [], left: null });
-    Object.assign(work, { sent: kept.live ? kept.sent : "", isStored: isFree && !isOnlyHere && until === kept.count && Boolean(kept.live), kept: "" });
+    // Without its state a machine is at its last checkpoint, and what it sent later comes again.
+    Object.assign(work, { sent: kept.live ? kept.sent : kept.first ? "" : sentIn(kept.recording), isStored: isFree && !isOnlyHere && until === kept.count && Boolean(kept.live), kept: "" });
     if (!isFree) Object.assign(work, { id: null, by: null, about: null });
     showOpened(answer, work, others);
     attempt(() => resumeNames(kept.symbols));

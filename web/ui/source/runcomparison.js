@@ -13,6 +13,8 @@ import { runningProgram } from "./sourceprogram.js";
 import { grouped } from "../../formats/texts.js";
 import { drawLanes } from "../timeline/drawing.js";
 
+// How long the lines of two runs are compared at most.
+const SECONDS = 60;
 // The run before: the workers that have it, up to which count it went, the machine beside which it is, whether it is shown; and pairs of counts, its own and those
 // of the run that is open, each where the distance of the two changes.
 /** @type {{ live: Helper, past: Past, end: number, generation: number, isShown: boolean, shifts: [number, number][] } | null} */
@@ -41,7 +43,7 @@ export async function compareRuns(before, now, end) {
   past.begin(number);
   set("other-run", { hidden: false });
   await live.ask("setRun", { on: true, fast: true, goal: end, seconds: 0 });
-  const found = await assembler().ask("parting", { one: before.session, other: now.session, to: end, sources: [before, now].map(sourcesOf) });
+  const found = await assembler().ask("parting", { one: before.session, other: now.session, to: end, sources: [before, now].map(sourcesOf), seconds: SECONDS });
   if (!otherRun || !isBeside() || !found) return;
   otherRun.shifts = found.lines?.shifts ?? [];
   showParting(found);
@@ -55,20 +57,28 @@ const sourcesOf = ({ parts }) => [...parts].map(([file, { source }]) => [file, s
 function showParting({ at, upTo, lines }) {
   if (at === null || !lines) return el("source-parts").replaceChildren(paragraph(`The two runs are the same up to ${grouped(upTo)}.`, "hint"));
   const { first, upTo: [before, now] } = lines;
-  if (!first) return el("source-parts").replaceChildren(paragraph(`The lines that both sources have do the same up to ${grouped(now)}; in the previous run that is ${grouped(before)}.`, "hint"));
+  if (!first) return el("source-parts").replaceChildren(paragraph(sameText([before, now], "the previous run"), "hint"));
   const after = first.counts[1] + (first.did ? 1 : 0);
   noteHit(after, "the two runs differ");
   drawLanes();
-  const line = paragraph(`${differenceText(first)} `, "hint");
+  const line = paragraph(`${differenceText(first, ["the previous run", "this one"], lineText)}, ${secondsOf(first.counts[1])}. `, "hint");
   line.append(button("Jump", () => moveCursor(after)), " ", button("Previous run", toggleOther));
   el("source-parts").replaceChildren(line);
 }
 
-/** @param {NonNullable<NonNullable<Parting["lines"]>["first"]>} first */
-function differenceText({ place, counts, did, goes }) {
-  const [before, now] = did ?? goes.map((to) => (to ? `goes to ${lineText(to)}` : "stops"));
-  const where = did && place ? `First difference at ${lineText(place)}` : place ? `First difference after ${lineText(place)}` : "First difference at the beginning";
-  return `${where}: ${before} in the previous run, at ${grouped(counts[0])}; ${now} in this one, at ${grouped(counts[1])}, ${secondsOf(counts[1])}.`;
+/** Says up to which counts two runs do the same.
+ * @param {[number, number]} upTo
+ * @param {string} other what the first of them is called */
+export const sameText = ([before, now], other) => `The lines that both sources have do the same up to ${grouped(now)}; in ${other} that is ${grouped(before)}.`;
+
+/** Says which line does something else, and what it does in both runs.
+ * @param {NonNullable<NonNullable<Parting["lines"]>["first"]>} first
+ * @param {[string, string]} names what the two runs are called
+ * @param {(place: LinePlace) => string} textOf */
+export function differenceText({ place, counts, did, goes }, names, textOf) {
+  const [before, now] = did ?? goes.map((to) => (to ? `goes to ${textOf(to)}` : "stops"));
+  const where = did && place ? `First difference at ${textOf(place)}` : place ? `First difference after ${textOf(place)}` : "First difference at the beginning";
+  return `${where}: ${before} in ${names[0]}, at ${grouped(counts[0])}; ${now} in ${names[1]}, at ${grouped(counts[1])}`;
 }
 
 /** @param {LinePlace} place */

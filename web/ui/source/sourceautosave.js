@@ -252,6 +252,7 @@ export async function openKept(id) {
   const kept = await keptNow(id);
   if (!kept) throw new Refusal("What was kept is no longer there.");
   await showKeptSource(kept);
+  if (openItem.id !== id) notice("This source is open in another page: what you do here is kept as a copy.");
 }
 
 /** @param {KeptSource} kept */

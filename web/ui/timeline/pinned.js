@@ -23,15 +23,17 @@ function noteRow(count, text) {
   return row;
 }
 
-/** Pins what was written to the count that is looked at.
+/** Pins what was written to the count that is looked at. A run of which nothing was kept, since it was only opened, is kept from then on.
  * @param {Event} event */
-function pinNote(event) {
+async function pinNote(event) {
   event.preventDefault();
   notice();
   if (!app.work.generation) return notice("There is no run yet to whose counts a note could be pinned.");
   const text = el("note").value.trim();
-  if (text) pin(shownCount(), text);
   el("note").value = "";
+  if (!text) return;
+  pin(shownCount(), text);
+  if (!app.latest?.hasOwn) await app.live.ask("keepToo");
 }
 
 export const listenToPins = () => on("note-form", "submit", pinNote);
