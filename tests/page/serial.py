@@ -57,6 +57,15 @@ AFTER_TWO = (
 """
     + ROUNDS
 )
+# Loads the byte again, some instructions later, and stores it once more.
+TWICE = """
+        MOV R5, 30
+rounds: SUB R5, R5, 1
+        BPL rounds
+        LDR R0, R1, 0
+        SUB R4, R2, 1
+        STB R0, R4, 0
+"""
 STOPPING = """
         SUB R5, R0, 255
         BNE wait
@@ -80,14 +89,15 @@ class Reader:
 
 
 READERS = {
-    "in a loop": Reader("", 100_000, 100_000, 100_000, 12, 500_000, 500),
-    "in a loop, by a byte": Reader("", 20_000, 20_000, 20_000, 4, 300_000, 100, load="LDB"),
+    "in a loop": Reader("", 100_000, 100_000, 100_000, 75, 100_000, 300),
+    "in a loop, by a byte": Reader("", 20_000, 20_000, 20_000, 18, 100_000, 100, load="LDB"),
+    "twice": Reader(TWICE, 20_000, 20_000, 20_000, 30, 80_000, 50),
     "each thousand instructions": Reader("        MOV R5, 500" + ROUNDS, 20_000, 20_000, 20_000, 60, 20_000, 50),
     "after times that look random": Reader(AT_RANDOM, 50_000, 50_000, 50_000, 75, 45_000, 100),
     "in lines": Reader(AFTER_LINES, 20_000, 20_000, 20_000, 60, 20_000, 10),
     "two at once": Reader(AFTER_TWO, 200, 200, 200, 60, 340, 0.5),
     "each hundred thousand instructions": Reader("        MOV R5, 50000" + ROUNDS, 200, 200, 200, 60, 200, 0.3),
-    "until it stops": Reader(STOPPING, 50_000, 5_002, 5_001, 12, 100_000, 10),
+    "until it stops": Reader(STOPPING, 50_000, 5_001, 5_001, 12, 100_000, 10),
     "once": Reader("stays:  B stays", 5_000, 2, 1, 60, 0, 0),
 }
 

@@ -2,13 +2,15 @@
 /* When the machine gets serial bytes. Its receiver holds one byte, and the next one would take its place: so each comes after the instruction that loads the one
  * before. If the program reads fast, a copy of the machine runs first, with bytes as far apart as the program needed lately, and the library says when the copy
  * loads the receiver. The machine gets those that were loaded in time; the others wait. If the program reads slowly, the machine gets a byte after each piece of a
- * turn. */
+ * turn. A program may load a byte twice, as it may on a real line, so none comes sooner than GAP instructions after that load. */
 import { LOAD } from "../formats/conditions.js";
 import { Inputs } from "../formats/inputs.js";
 import { INPUT_BYTES } from "../formats/layout.js";
 import { SERIAL } from "../formats/states.js";
 
 const RECEIVER = 0xffffc8, LOADS = [{ kind: LOAD, from: RECEIVER, end: RECEIVER + 4 }];
+// How many instructions a byte comes after the load of the one before, at least; how many loads of each byte are looked for, at most.
+const GAP = 200, LOADS_EACH = 4;
 // The most bytes of a copy, and the most instructions; how many the machine does in the time that it takes to make a copy; and from how many bytes on the distance
 // shrinks slowly: most of them came while the program waited, which does not show how long it works for each.
 const MOST = 2048, MOST_STEPS = 200000, COPY_STEPS = 10000, MANY = 16;
@@ -51,8 +53,8 @@ export class SerialLine {
     this.many = 1;
   }
 
-  /** Gives the bytes that a copy reads in time, if the machine has just got one; none if it holds one longer. Returns the count after the load of the last one, or up to
-   * which nothing is loaded.
+  /** Gives the bytes that a copy reads in time, if the machine has just got one; none if it holds one longer. Returns the count from which on the next one may come, or
+   * up to which nothing is loaded.
    * @param {import("./machine.js").Machine} machine
    * @param {number} whole
    * @param {boolean} isNew */
@@ -66,25 +68,25 @@ export class SerialLine {
       planned.push(counts[number + 1], SERIAL, serial.bytes[serial.at + number]);
     }
     machine.put(other, machine.at(machine.address));
-    const loads = library.hits(other, planned.bytes, end, LOADS, tried + 1);
-    // How many are read in time, the first one with them; the count after the load of the last one, how long that one took, and the longest time.
-    let read = 0, readBy = 0, took = 0, longest = 0;
-    for (let load = 0; read <= tried && counts[read] >= readBy; read++) {
+    const loads = library.hits(other, planned.bytes, end, LOADS, tried ? LOADS_EACH * (tried + 1) : 1);
+    // How many are read in time, the first one with them; the count from which on the next one may come, how long the last one took, and the longest time.
+    let read = 0, free = 0, took = 0, longest = 0;
+    for (let load = 0; read <= tried && counts[read] >= free; read++) {
       while (load < loads.length && loads[load].at < counts[read]) load++;
       if (load === loads.length) break;
-      readBy = loads[load].at + 1;
-      took = readBy - counts[read];
+      free = loads[load].at + 1 + GAP;
+      took = free - counts[read];
       longest = Math.max(longest, took);
     }
     if (!read) {
       if (end - given >= MOST_STEPS) this.apart = MOST_STEPS;
-      return loads.length > tried ? loads[tried].at + 1 : end;
+      return loads.length > tried ? loads[tried].at + 1 + GAP : end;
     }
     inputs.replace(next, planned.bytes.subarray(0, INPUT_BYTES * (inputs.length - next + read - 1)));
     serial.skip(machine.ahead = read - 1);
     if (isNew) this.row = read - 1;
-    this.learn(tried, isNew ? took : readBy - given, longest);
-    return readBy;
+    this.learn(tried, isNew ? took : free - given, longest);
+    return free;
   }
 
   /** Fits number and distance of bytes, after a copy with a number of them, of which the last one that was read took so many instructions, and the slowest one, too. A
