@@ -69,6 +69,12 @@ def pin(who: Person, text: str) -> None:
     who.press_button("#g-tab-source")
 
 
+def wait_until_noted(who: Person) -> None:
+    """Waits until what was typed is kept, and the notes, too, which the page does by itself half a second later."""
+    who.wait_until_kept()
+    who.page.wait("galluspa.work().about?.desk?.notes?.length === pins.size")
+
+
 def go_on(who: Person, keys: str) -> None:
     """Goes on with the run that is paused, types, and pauses."""
     who.run_or_pause()
@@ -77,9 +83,9 @@ def go_on(who: Person, keys: str) -> None:
 
 
 def take_up(who: Person) -> None:
-    """Goes on with the project that was worked on last, and waits until all of it is there."""
+    """Goes on with the project that was worked on last, and waits until all of it is there: its notes come last."""
     continue_with(who, "echo")
-    who.page.wait(f"{WORD} === 'PAUSED' && {TEXT}.includes('MOV R1, KEY') && galluspa.source().isRunning")
+    who.page.wait(f"{WORD} === 'PAUSED' && {TEXT}.includes('MOV R1, KEY') && galluspa.source().isRunning && pins.size")
 
 
 def kept_of(who: Person) -> list[object]:
@@ -104,7 +110,7 @@ def work_in_both(folder: Path) -> None:
         one.type("a")
         one.run_or_pause()
         pin(one, "first")
-        one.wait_until_kept()
+        wait_until_noted(one)
         with another(one, "two") as two:
             take_up(two)
             expect("what the second tab says", two.page.answer(NOTICE), COPY)
@@ -138,7 +144,7 @@ def note_in_copy(folder: Path) -> None:
         one.type("a")
         one.run_or_pause()
         pin(one, "first")
-        one.wait_until_kept()
+        wait_until_noted(one)
         with another(one, "two") as two:
             take_up(two)
             write_first(two, ";Two ")
@@ -186,7 +192,7 @@ def take_logged(folder: Path) -> None:
         one.type("a")
         one.run_or_pause()
         pin(one, "first")
-        one.wait_until_kept()
+        wait_until_noted(one)
         with another(one, "two") as two:
             two.page.wait("el('continue').checkVisibility() && !el('continue').disabled")
             one.page.show()
@@ -272,7 +278,7 @@ def end_one(folder: Path) -> None:
             one.page.show()
             go_on(one, "b")
             write_first(one, ";More ")
-            one.wait_until_kept()
+            wait_until_noted(one)
             one.page.wait("!isSourceUnsafe()")
             one.page.crash()
             two.page.show()
@@ -295,7 +301,7 @@ def deny_one(folder: Path) -> None:
         one.type("a")
         one.run_or_pause()
         pin(one, "first")
-        one.wait_until_kept()
+        wait_until_noted(one)
         with another(one, "two") as two:
             two.page.begin_with(DENY)
             two.reload()
