@@ -94,9 +94,9 @@ def executions_along(
 
 
 def _put_slice(found: Executions, run: Run, start: Machine, end: Machine, profile: Profile, splits: int) -> int:
-    """Adds the counts of a slice between two machines of a run, and returns how many slices may still be split. A slice is split if a word
-    that it executes differs at its end: a loader may have written it before, and it is one that changed only if it was executed as both.
-    """
+    """Adds the counts of a slice between two machines of a run, and returns how many slices may still be split. A slice is split
+    if a word that it executes differs at its end: a loader may have written it before. So only a word that is executed both before
+    and after it changes is one that is not always the same."""
     visited = list(profile.visited())
     changed = [at for at in visited if start.words[at] != end.words[at]]
     if not changed or end.count - start.count == 1 or not splits:
