@@ -9,7 +9,7 @@ from types import ModuleType
 
 import pytest
 
-from tests.page import closing, leaving
+from tests.page import closing, leaving, twotabs
 from tests.page.parts import PARTS
 from tests.support.parts import PROGRAMS, SCRIPTS, SUITES, page_words
 from tests.support.suites import chosen, processes
@@ -92,7 +92,7 @@ def test_all_tasks_of_the_page_belong_to_a_part() -> None:
     modules = [path.stem for path in sorted((TOP / "tests/page").glob("*.py")) if "\nTASKS = " in path.read_text()]
     tasks = {task for name in modules for task in import_module(f"tests.page.{name}").TASKS}
     assert len(modules) > 5
-    assert tasks - {task for done in PARTS.values() for task in done} == {*closing.TASKS, *leaving.TASKS}
+    assert tasks - {task for done in PARTS.values() for task in done} == {*closing.TASKS, *leaving.TASKS, *twotabs.TASKS}
 
 
 def alongside(folder: Path, lines: str) -> tuple[list[str], int]:
