@@ -146,22 +146,26 @@ def test_what_waits_for_more_crates_is_not_begun_without_them(tmp_path: Path) ->
     assert "alongside: rt ci has not said that it built galluspa, oberon_replay" in said
 
 
-@pytest.mark.parametrize(("failures", "passes", "status"), [(1, True, 0), (5, True, 0), (6, True, 1), (1, False, 1)])
-def test_a_few_failed_tests_run_again_alone(tmp_path: Path, failures: int, passes: bool, status: int) -> None:
-    """Tests of a suite that failed beside all else run again, and are named if they pass; not many of them, and not those of a script."""
+@pytest.mark.parametrize(
+    ("failures", "ended", "passes", "status"),
+    [(1, 1, True, 0), (5, 1, True, 0), (6, 1, True, 1), (1, 1, False, 1), (1, 2, True, 1)],
+)
+def test_a_few_failed_tests_run_again_alone(tmp_path: Path, failures: int, ended: int, passes: bool, status: int) -> None:
+    """Tests of a suite that failed beside all else run again, and are named if they pass; not many of them, not if the suite was cut short,
+    and not those of a script."""
     crates = ("risc_search", "oberon_answers", "oberon_replay", "refused_growth", "galluspa")
     lines = "".join(f"rt: {name} proved\n" for name in crates) + "3 passed, 0 failed\n"
     alongside(tmp_path, lines)
     names = [f"tests/page/test_use.py::test_use[part of {at}]" for at in range(failures)]
     summary = "".join(f"echo 'FAILED {name} - AssertionError: it did not come'\n" for name in names)
     (tmp_path / "tests/run").write_text(
-        f"#!/bin/sh\n[ $1 = page ] || exit 0\ncase $* in *--last-failed*) exit {0 if passes else 1};; esac\n{summary}exit 1\n"
+        f"#!/bin/sh\n[ $1 = page ] || exit 0\ncase $* in *--last-failed*) exit {0 if passes else 1};; esac\n{summary}exit {ended}\n"
     )
     ran = run([tmp_path / "tests/alongside"], lines.encode())
     said = ran.output.decode().splitlines()
     assert ran.status == status
     if status:
-        assert said[-1].startswith("alongside: failed: tests/run page: exit status 1, ")
+        assert said[-1].startswith(f"alongside: failed: tests/run page: exit status {ended}, ")
     else:
         assert said[-1] == f"alongside: passed only when run again, alone: {', '.join(names)}"
     (tmp_path / "tests/loop-cost").write_text("#!/bin/sh\nexit 1\n")
