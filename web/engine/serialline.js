@@ -89,8 +89,8 @@ export class SerialLine {
     return free;
   }
 
-  /** Fits number and distance of bytes, after a copy with a number of them, of which the last one that was read took so many instructions, and the slowest one, too. A
-   * program that is late now and then gets as many as it reads until then; one that is late more often gets them farther apart.
+  /** Fits number and distance of bytes, after a copy with `tried` of them: `took` and `longest` are the instructions from a byte to the next one that may come, of the
+   * last byte and of the slowest. A program that is late now and then gets as many as it reads until then; one that is late more often gets them farther apart.
    * @param {number} tried
    * @param {number} took
    * @param {number} longest */

@@ -6,7 +6,7 @@ from dataclasses import dataclass
 from galluspa.output import pictures
 from galluspa.output.pictures import Box
 
-# A part is shown at so many times its size, or at as many as a page of so many points has room for.
+# The most times that a part is enlarged, and the width of a page in points, which it has to fit in.
 TIMES, MOST_POINTS = 4, 1024
 
 
