@@ -5,7 +5,7 @@ import shutil
 from pathlib import Path
 from typing import Any
 
-import yaml  # type: ignore[import]
+import yaml
 
 from tests.tools.samples import STORED, Ran, rejoining, run
 from tests.tools.test_recipes import SECONDS, RecipesTest, recipe
