@@ -290,6 +290,10 @@ class RefusalTest(RerunsTest):
         self.assertEqual(len(self.answers("--approve", status=1)), 1)
         self.file("file", "")
         self.assertEqual(len(self.answers("--recordings", self.folder / "file", status=1)), 1)
+        (self.folder / "made").mkdir()
+        (self.folder / "made/it.orsr").symlink_to("/dev/full")
+        told = self.answers("--recordings", self.folder / "made", "--approve", status=3)
+        self.assertEqual(told, [f"{self.folder}/made/it.orsr: No space left on device"])
         self.assert_refused(tool("rerun", EXAMPLES / "keys.json", "--script", "--image", "/dev/null", "--at", "0x200000"), "--at")
 
     def test_a_limit_of_time(self) -> None:

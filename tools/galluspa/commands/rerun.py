@@ -19,7 +19,7 @@ from galluspa.formats.scripts import STILL
 from galluspa.formats.sessions import COUNTS
 from galluspa.formats.symbolfiles import symbols_for
 from galluspa.process.children import in_parallel
-from galluspa.process.cli import OK, WRONG, Parser, Refused, make_folder, whole_number, with_libraries, write_file
+from galluspa.process.cli import OK, WRONG, Failed, Parser, Refused, make_folder, whole_number, with_libraries, write_file
 from galluspa.process.escapes import printable
 from galluspa.process.timelimit import TimeIsUp
 from galluspa.suites import approvals, storedsessions
@@ -111,11 +111,12 @@ class Reruns:
         """Returns how the run of a stored session compares with what was approved."""
         start = time.monotonic()
         why: Sequence[str] = ()
+        has_failed = False
         try:
             (answer, why), is_error = self._answered(case), False
         except (Refused, TimeIsUp) as refusal:
-            answer, is_error = printable(str(refusal))[:LONGEST], True
-        return Outcome(case, answer, time.monotonic() - start, is_error, why)
+            answer, is_error, has_failed = printable(str(refusal))[:LONGEST], True, isinstance(refusal, Failed)
+        return Outcome(case, answer, time.monotonic() - start, is_error, why, has_failed)
 
     def _answered(self, case: Case) -> tuple[str, Sequence[str]]:
         """Returns what is answered of a run, and why it differs."""

@@ -10,7 +10,7 @@ from pathlib import Path
 
 from galluspa.engine.program import Program
 from galluspa.process.children import in_parallel
-from galluspa.process.cli import Refused, read_file
+from galluspa.process.cli import Failed, Refused, read_file
 from galluspa.process.escapes import for_tap, printable
 from galluspa.process.timelimit import Limit, TimeIsUp
 
@@ -43,13 +43,15 @@ class Case:
 @dataclass(frozen=True)
 class Outcome:
     """What the program answered to a recording, and in how many seconds. If `is_error`, there is no answer that could
-    be as expected, and `answered` says why. `why` has lines on how an unexpected answer came about."""
+    be as expected, and `answered` says why; `has_failed` says whether a write failed or memory ran out. `why` has lines on how an
+    unexpected answer came about."""
 
     case: Case
     answered: str
     seconds: float
     is_error: bool = False
     why: Sequence[str] = ()
+    has_failed: bool = False
 
     @property
     def is_ok(self) -> bool:
@@ -99,13 +101,13 @@ def outcomes_of(program: Program, cases: Sequence[Case], jobs: int, workers: int
 
     def outcome(case: Case) -> Outcome:
         start = time.monotonic()
-        answered, is_error = case.fault, bool(case.fault)
+        answered, is_error, has_failed = case.fault, bool(case.fault), False
         try:
             if not is_error:
                 answered = replace(program, limit=Limit(seconds)).check_file(case.file, workers).line
         except (Refused, TimeIsUp) as why:
-            answered, is_error = printable(str(why)), True
-        return Outcome(case, answered, time.monotonic() - start, is_error)
+            answered, is_error, has_failed = printable(str(why)), True, isinstance(why, Failed)
+        return Outcome(case, answered, time.monotonic() - start, is_error, has_failed=has_failed)
 
     return in_parallel(jobs, outcome, cases)
 

@@ -4,7 +4,7 @@ import os
 from argparse import Namespace
 from collections.abc import Callable, Iterable, Iterator, Sequence
 
-from galluspa.process.cli import OK, WRONG, Output, Parser, Refused, complain, progress, whole_number, write_file
+from galluspa.process.cli import FAILED, OK, WRONG, Output, Parser, Refused, complain, progress, whole_number, write_file
 from galluspa.process.escapes import printable
 from galluspa.suites import runs
 from galluspa.suites.cases import Outcome, tap
@@ -54,6 +54,8 @@ def reported(
     if changes is not None:
         print("\n".join(_told(changes, asked.before)))
     _write(asked, done, runs.text_of(now, shard), lambda: page(done, changes))
+    if any(it.has_failed for it in done):
+        return FAILED
     return OK if all(it.is_ok for it in done) else WRONG
 
 
