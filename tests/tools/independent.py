@@ -19,11 +19,13 @@ def signed(value: int) -> int:
 
 @dataclass(frozen=True)
 class Source:
-    """A value that an instruction used: what has it, as the cells of the machine; the value; and what it is for."""
+    """A value that an instruction used: what has it, as the cells of the machine; the value; what it is for; and of a device the input that
+    set it, if there is one."""
 
     cells: tuple[object, ...]
     value: int
     role: str = ""
+    event: Event | None = None
 
 
 @dataclass
@@ -35,7 +37,6 @@ class Done:
     word: int
     wrote: tuple[object, ...] = ()
     sources: tuple[Source, ...] = ()
-    event: object = None
     sent: int | None = None
     loaded: tuple[int, ...] = ()
     stored: tuple[int, ...] = ()
@@ -184,9 +185,8 @@ class Independent:
         else:
             done.loaded = places
             if address >= DEVICES:
-                place = (address - DEVICES) // 4
-                value = self._load(place, done) >> (8 * (address & 3) if is_byte else 0) & (0xFF if is_byte else WORD)
-                done.sources = (Source(("device",) if place in (0, 1, 2, 3, 6, 7) else (), value), *base)
+                value, given = self._load((address - DEVICES) // 4, 8 * (address & 3) if is_byte else 0, 0xFF if is_byte else WORD)
+                done.sources = (*given, *base)
             else:
                 value = sum(self.memory[place] << 8 * at for at, place in enumerate(places))
                 done.sources = (Source(places, value << 8 * (address & 3) if is_byte else value), *base)
@@ -200,12 +200,23 @@ class Independent:
         elif address & ~3 == DEVICES + 8:
             done.sent = value & 0xFF
 
-    def _load(self, place: int, done: Done) -> int:
-        kind = {0: 0 if self.session.rate else 1, 1: 2, 2: 5, 3: 5, 6: 3}.get(place, 0)
-        done.event = self.keys[0] if place == 7 and self.keys else self.last.get(kind)
+    def _load(self, place: int, shift: int, mask: int) -> tuple[int, list[Source]]:
+        """Loads bits of a device word. Returns them, and who gives which of them."""
+        kinds = {0: 0 if self.session.rate else 1, 1: 2, 2: 5, 3: 5, 6: 3}
+        key = self.keys[0] if self.keys else None
+        event = key if place == 7 else self.last.get(kinds.get(place, 0))
+        value = self._device(place) >> shift & mask
+        if place not in (*kinds, 7):
+            return value, [Source((), value)]
+        waits = (bool(self.keys) << 28) >> shift & mask if place == 6 else 0
+        mouse = Source(("device",), value ^ waits, event=event)
+        return value, [mouse, *[Source(("device",), waits, event=key)] * bool(waits)]
+
+    def _device(self, place: int) -> int:
+        """The word of a device, as a load takes it."""
         if place == 2:
-            self.serial, value = self.serial & 0xFF, self.serial & 0xFF
-            return value
+            self.serial &= 0xFF
+            return self.serial
         if place == 7:
             return self.keys.pop(0).value if self.keys else 0
         fixed = {4: 255, 5: 1, 0: self.timer, 1: self.switches, 3: 2 | self.serial >> 8}

@@ -23,7 +23,6 @@ from galluspa.analysis.origins import (
 )
 from galluspa.analysis.timeline import Timeline
 from galluspa.analysis.writers import Writers
-from galluspa.formats.recording import Event
 from tests.programs import randomly
 from tests.programs.trial import Case
 from tests.tools.frames import FramesTest
@@ -108,13 +107,10 @@ class OriginsTest(ToolTest):
             return
         done = machine.done[it.step.before.count]
         assert done
-        for source in it.sources:
-            if isinstance(source.end, Taken):
-                events = [
-                    (event.count, event.kind, event.value) for event in (source.end.event, done.event) if isinstance(event, Event)
-                ]
-                self.assertEqual(len(events), 2 * bool(source.end.event), it)
-                self.assertEqual(events[:1], events[1:], it)
+        taken = [source.end.event for source in it.sources if isinstance(source.end, Taken)]
+        given = [source.event for source in done.sources if source.cells == ("device",)]
+        as_tuples = [[event and (event.count, event.kind, event.value) for event in events] for events in (taken, given)]
+        self.assertEqual(as_tuples[0], as_tuples[1], it)
         self.compare_sources(machine, it, done.sources)
         for source in it.sources:
             self.check(machine, source, it.step.before.count, ends)
@@ -156,6 +152,30 @@ class OriginsTest(ToolTest):
             found.append((value.value, end.event.value if end.event else 0))
         self.assertEqual([key for key, _ in found], [*range(0x40, 0x50), 0x70, 0x71, *[0] * 6])
         self.assertEqual([key for key, _ in found], [event for _, event in found])
+
+    def test_bit_28_of_the_mouse_word_is_of_the_key_that_waits(self) -> None:
+        """A key and then a move come while a loop loads the mouse word; after a load of the key no key waits."""
+        # R0 := -64, the address of the device words; words and bytes of the mouse word; the key; the mouse word.
+        words = [0x5000FFC0, *[0x81000018] * 4, 0x9100001B, 0x91000018, 0x8100001C, 0x81000018, JUMP]
+        move = 1 << 24 | 3 << 12 | 5
+        run = Timeline(run_of(record(session(words, [10], [(2, "key", 0x61), (3, "mouse", move)]))))
+        waits, none = ("keys", 1 << 28, 0x61), ("mouse", 0, None)
+        wanted = {
+            2: [none],
+            3: [none, waits],
+            4: [("mouse", move, move), waits],
+            6: [("mouse", 1, move), ("keys", 1 << 4, 0x61)],
+            7: [("mouse", 5, move)],
+            8: [("keys", 0x61, 0x61)],
+            9: [("mouse", move, move)],
+        }
+        for count, parts in wanted.items():
+            [value] = origins(Writers(run), Register("R1"), run.machine(count).state.r[1], count, 1)
+            found = []
+            for it in value.sources:
+                if isinstance(it.end, Taken):
+                    found.append((it.end.device, it.value, it.end.event.value if it.end.event else None))
+            self.assertEqual(found, parts, count)
 
 
 class CommandTest(FramesTest):

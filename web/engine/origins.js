@@ -12,6 +12,8 @@ export const DEVICES_AT = 0xffffc0, LEDS_AT = 0xffffc4;
 export const ALL_BYTES = 15, ALL_FLAGS = "NZCV";
 // A base register of loads and stores that is not followed: it says where a frame is.
 const STACK_POINTER = "R14";
+// The bit of the mouse word that says that a key waits.
+const KEY_WAITS = 0x10000000;
 const MOVE = 0, WITH_CARRY = [8, 9], ACCESS = 2, BRANCH = 3, STORE = 5;
 // The cost of what was on the screen, in computations: by that it is followed later than others.
 const SCREEN_COST = 3;
@@ -150,20 +152,23 @@ async function sourcesOf(step, writes) {
   const had = (part, role = "") => origin(part, valueIn(before, part), count, { role });
   if (word >>> 30 === BRANCH) return [];
   if (word >>> 30 === ACCESS) {
-    const base = `R${word >>> 20 & 15}`, moved = word >>> 29 === STORE ? had({ register: `R${word >>> 24 & 15}` }) : await loaded(step, writes);
-    return base === STACK_POINTER ? [moved] : [moved, had({ register: base }, "address")];
+    const base = `R${word >>> 20 & 15}`, moved = word >>> 29 === STORE ? [had({ register: `R${word >>> 24 & 15}` })] : await loaded(step, writes);
+    return base === STACK_POINTER ? moved : [...moved, had({ register: base }, "address")];
   }
   const used = operandsOf(word).map((register) => (register !== "flags" ? had({ register }) : isSum(word) ? had({ flags: "C" }, "carry") : had({ flags: ALL_FLAGS })));
   if ((word >>> 16 & 15) === MOVE || !(word >>> 30 & 1)) return used;
   return [...used, origin(null, (word & 0xffff) - (word >>> 28 & 1 ? 0x10000 : 0), count, { end: "constant" })];
 }
 
-/** Returns the value that a load loads.
+/** Returns the value that a load loads. That of the mouse word has two parts if a key waits: the bit that says so is of the keys.
  * @param {Step} step
  * @param {Writes} writes */
 async function loaded(step, writes) {
-  const { word, before, after, count } = step, at = addressIn(word, before), value = field(after, AT.R + 4 * (word >>> 24 & 15)), isByte = word >>> 28 & 1;
-  if (at < MEMORY_BYTES) return origin({ address: at & ~3, mask: isByte ? 1 << (at & 3) : ALL_BYTES }, isByte ? value << 8 * (at & 3) : value, count);
-  const device = at >= DEVICES_AT ? TAKEN_FROM[at & ~3] : undefined;
-  return device ? origin({ device }, value, count, { end: "taken", input: await writes.inputOf(device, step) }) : origin(null, value, count, { end: "constant" });
+  const { word, before, after, count } = step, at = addressIn(word, before), value = field(after, AT.R + 4 * (word >>> 24 & 15)), isByte = word >>> 28 & 1, shift = isByte ? 8 * (at & 3) : 0;
+  if (at < MEMORY_BYTES) return [origin({ address: at & ~3, mask: isByte ? 1 << (at & 3) : ALL_BYTES }, value << shift, count)];
+  const device = at >= DEVICES_AT ? TAKEN_FROM[at & ~3] : undefined, waits = device === "mouse" ? value & KEY_WAITS >>> shift : 0;
+  /** @type {(device: string, value: number) => Promise<Origin>} */
+  const taken = async (device, value) => origin({ device }, value, count, { end: "taken", input: await writes.inputOf(device, step) });
+  if (!device) return [origin(null, value, count, { end: "constant" })];
+  return [await taken(device, value - waits), ...(waits ? [await taken("keys", waits)] : [])];
 }

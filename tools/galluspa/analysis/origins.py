@@ -9,7 +9,7 @@ from dataclasses import dataclass, field
 from heapq import heappop, heappush
 from typing import Protocol, TypeVar
 
-from galluspa.formats.devicewords import DEVICES_AT, LOADED
+from galluspa.formats.devicewords import DEVICES_AT, KEY_WAITS, LOADED
 from galluspa.engine.tracing import Step
 from galluspa.formats.instructions import WITH_CARRY, address, is_branch, is_store, operands_of
 from galluspa.formats.recording import DISPLAY_END, DISPLAY_START, FLAGS, MEMORY_BYTES, WORD, Checkpoint, Event
@@ -226,7 +226,10 @@ def _sources(step: Step, part: Part, writes: Writes) -> Iterator[Value]:
         return
     if word >> 30 == 2:
         base, register = f"R{word >> 20 & 15}", f"R{word >> 24 & 15}"
-        yield _value_before(register, step) if is_store(word) else _loaded(step, writes)
+        if is_store(word):
+            yield _value_before(register, step)
+        else:
+            yield from _loaded(step, writes)
         if base != STACK_POINTER:
             yield _value_before(base, step, ADDRESS)
         return
@@ -251,16 +254,22 @@ def register_of(state: Checkpoint, name: str) -> int:
     return state.h if name == "H" else state.registers[int(name[1:])]
 
 
-def _loaded(step: Step, writes: Writes) -> Value:
-    word = step.word or 0
+def _loaded(step: Step, writes: Writes) -> Iterator[Value]:
+    """Yields the value that a load loads. That of the mouse word has two parts if a key waits: the bit that says so is of the
+    keys."""
+    word, count = step.word or 0, step.before.count
     at, value = address(word, step.before.registers) or 0, step.after.registers[word >> 24 & 15]
+    shift = 8 * (at & 3) if _is_byte(step) else 0
     if at < MEMORY_BYTES:
-        mask = 1 << (at & 3) if _is_byte(step) else ALL_BYTES
-        return Value(Bytes(at & ~3, mask), value << 8 * (at & 3) if _is_byte(step) else value, step.before.count)
+        yield Value(Bytes(at & ~3, 1 << (at & 3) if _is_byte(step) else ALL_BYTES), value << shift, count)
+        return
     name = LOADED.get(at & ~3, "") if at >= DEVICES_AT else ""
     if not name:
-        return Value(None, value, step.before.count, end=Constant())
-    return Value(Device(name), value, step.before.count, end=Taken(name, writes.input_of(name, step)))
+        yield Value(None, value, count, end=Constant())
+        return
+    waits = value & KEY_WAITS >> shift if name == "mouse" else 0
+    for device, part in [(name, value - waits), ("keys", waits)][: 1 + bool(waits)]:
+        yield Value(Device(device), part, count, end=Taken(device, writes.input_of(device, step)))
 
 
 def links_in(values: Sequence[Value]) -> Iterator[Value]:
