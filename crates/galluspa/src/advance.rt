@@ -252,7 +252,7 @@ fn run(
 /// Runs a machine from the count of its state up to the count `to`, with the inputs of these counts and perhaps others, and
 /// returns 0 (`DONE`). The bytes that it sends are written to the front of `sent`, and their number to `sent_count`.
 ///
-/// A state that is written has each number in its range, so that the next call takes it; the same holds of `galluspa_claim`.
+/// A state that is written has each number in its range, so that the next call takes it; `galluspa_claim` guarantees this too.
 ///
 /// Otherwise nothing is written, and the result is 1 (`OUT_OF_RANGE`) if `words` is not of 262,144 words, `to` is below the count
 /// of the state, a number of the state or of an input is out of its range, or the inputs' counts fall or are above 2^40; 2

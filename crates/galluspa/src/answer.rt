@@ -10,7 +10,7 @@ use crate::refusal::NO_ANSWER;
 use oberon_answers::{Answer, check, migrate, record};
 use std::alloc::Global;
 
-/// Writes an answer if there is room. An empty one, which there never is, would be reported as out of memory: its length is 0, too.
+/// Writes an answer if there is room. No answer is empty: its length, 0, would be reported as out of memory.
 fn put(answer: &Answer, out: &mut [u8], status: &mut u8) -> usize
     ensures len { result ≡ vec_len answer.now.bytes }
     ensures bytes { 0 < result → result ≤ length out.old → take result out.new ≡ answer.now.bytes.items }

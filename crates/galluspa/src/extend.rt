@@ -24,7 +24,7 @@ use oberon_format::{Fault, Recording, read, write};
 use oberon_session::{Claim, ExtendFault, begin_recording, extend_recording};
 use std::alloc::Global;
 
-/// Why a recording was not begun, or not extended.
+/// Error from beginning or extending a recording.
 #[derive(Clone, Copy)]
 pub enum Unrecorded {
     /// A number is out of its range, a slice is not of its length, or what follows doesn't come next.

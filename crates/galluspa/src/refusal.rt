@@ -5,7 +5,7 @@ use std::alloc::AllocError;
 /// out. No answer is empty. It is 0, as `DONE` is, which they never return.
 pub const NO_ANSWER: usize = 0;
 
-/// The call did what it is for.
+/// The call succeeded.
 pub const DONE: u8 = 0;
 
 /// A number is out of its range, a slice is not of its length, or inputs are out of order.

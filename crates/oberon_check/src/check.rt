@@ -39,7 +39,7 @@ impl From<AllocError> for CheckFault {
     }
 }
 
-/// Works each pass on a thread of its own, all over one recording and one book. Returns the workers' shares in the order of
+/// Runs each pass on its own thread, all over one recording and one book. Returns the workers' shares in the order of
 /// the passes, with an error for each worker that ran out of memory.
 pub(crate) fn work_all<R: Threads + Sync, G: Gate + Sync>(
     rt: &R,

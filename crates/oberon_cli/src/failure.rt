@@ -7,7 +7,7 @@ use std::alloc::AllocError;
 /// Why there is no answer.
 #[derive(Clone, Copy, Debug, PartialEq, Eq)]
 pub enum Failure {
-    /// The arguments ask for nothing that the program does.
+    /// The arguments are invalid.
     Words,
     /// The input could not be read.
     Read,

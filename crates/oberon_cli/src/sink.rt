@@ -5,7 +5,7 @@ ghost use Rattle.oberon_cli.specs.Transfer.{Known, Fails, GainsPrefix, GainsWhol
 
 use std::io::Write;
 
-/// A write or a flush failed, or a write took nothing of a rest that is not empty.
+/// A write or a flush failed, or a write accepted none of the remaining bytes.
 #[derive(Clone, Copy, Debug, PartialEq, Eq)]
 pub struct WriteFault;
 

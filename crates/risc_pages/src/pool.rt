@@ -64,7 +64,7 @@ impl Pool {
         self.pages.len() as u32
     }
 
-    /// Reports whether there is no page but that of zeros.
+    /// Reports whether the pool has only the zero page.
     #[inline]
     pub fn is_empty(&self) -> bool
         ensures { IsTrue result ↔ (length self.now ≡ 0) }

@@ -140,7 +140,7 @@ fn work(claims: &Claims, mut pass: Pass, marks: &[AtomicU64]) -> Pass
     pass
 }
 
-/// Works each pass on a thread of its own, which first waits for another thread.
+/// Runs each pass on its own thread, which first waits for another thread.
 fn work_all<R: Threads + Sync>(
     rt: &R,
     claims: &Claims,

@@ -14,7 +14,7 @@ use std::alloc::{AllocError, Global};
 use std::test::Fail;
 use std::thread::{Threads, map_vec};
 
-/// Works each pass on a thread of its own.
+/// Runs each pass on its own thread.
 fn work_all<R: Threads + Sync>(
     rt: &R,
     alloc: Global,
