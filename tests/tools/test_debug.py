@@ -274,7 +274,7 @@ class CommandsTest(FramesTest):
         script.write_text("at 3\nfrob\nat 4\n")
         ran = tool("debug", self.recording, "--batch", "-x", script)
         self.assertEqual(
-            (ran.status, ran.errors.splitlines()[-1]), (2, f"galluspa debug: {script}:2: frob is no command: help lists them")
+            (ran.status, ran.errors.splitlines()[-1]), (2, f"galluspa debug: {script}:2: unknown command frob: try help")
         )
         self.assertNotIn("at 4", ran.output.decode())
         self.assertIn("quit", tool("debug", self.recording, "-x", self.file("q", "quit\nfrob\n")).output.decode())
@@ -299,9 +299,9 @@ class CommandsTest(FramesTest):
 
     def test_bad_commands_are_one_line(self) -> None:
         for command, told in (
-            ("frob", "frob is no command"),
-            ("re", "re may mean reverse-"),
-            ("\x1b[2J", "\\x1b[2J is no command"),
+            ("frob", "unknown command frob"),
+            ("re", "ambiguous command re: reverse-"),
+            ("\x1b[2J", "unknown command \\x1b[2J"),
             ("at", "expected at COUNT"),
             ("at 7476", "count 7,476 is not in 0..7,475"),
             ("at -1", "count -1 is not in 0..7,475"),
@@ -317,7 +317,7 @@ class CommandsTest(FramesTest):
             ('catch "', "No closing quotation"),
             ("delete 9", "there is no point 9"),
             ("info", "expected info and one of"),
-            ("info registers R99", "R99 is no register"),
+            ("info registers R99", "unknown register R99"),
             ("x/8xq SP", "expected x/FMT ADDRESS"),
             ("x 0xffffffff", "is FFFFFFFF, and an address of memory"),
             ("x", "expected x/FMT ADDRESS"),
@@ -329,7 +329,7 @@ class CommandsTest(FramesTest):
             ("who dot 1,1", "nothing wrote dot 1,1 before count 0"),
             ("finish", "no call is open at count 0"),
             ("reverse-finish", "no call is open at count 0"),
-            ("finish 3", "3: nothing comes after this command"),
+            ("finish 3", "3: this command takes no arguments"),
             ("frame 1", "there is no frame 1: the last is 0"),
             ("frame 99999999999999999999", "there is no frame 99,999,999,999,999,999,999: the last is 0"),
             ("frame -1", "-1: expected frame N, with the number of a frame, which backtrace lists"),
@@ -339,7 +339,7 @@ class CommandsTest(FramesTest):
             ("frame \x1b[2J", "\\x1b[2J: expected frame N"),
             ("disassemble Main,0", "0 is not a number of instructions"),
             ("list 200000", "main.asm has no line 200,000"),
-            ("help frob", "frob is no command"),
+            ("help frob", "unknown command frob"),
             ("screen a b", "expected screen, or screen FILE"),
             ("screen /none/it.png", "/none/it.png: No such file"),
         ):
@@ -351,7 +351,7 @@ class CommandsTest(FramesTest):
 
     def test_too_many_points_are_refused(self) -> None:
         ran = self.ran(*["break"] * 61, status=2)
-        self.assertIn("there are too many points: delete some", ran.errors)
+        self.assertIn("too many breakpoints and watchpoints: delete some", ran.errors)
 
     def test_other_input_is_refused(self) -> None:
         self.assert_helps("debug")

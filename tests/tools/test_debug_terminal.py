@@ -42,7 +42,7 @@ class TerminalTest(ToolTest):
             self.assertIn("the recording ends here", talk.typed("stepi\r", "(1) "))
             self.assertIn("breakpoint 1: Top.Loop\r\n         0", talk.typed("rc\r", "(0) "))
             self.assertIn("         1       1  41080001  ADD R1, R0, 1", talk.typed("\x1b[A\x1b[A\x1b[A\x7f1\r", "(1) "))
-            self.assertIn("frob is no command", talk.typed("frob\r", "(1) "))
+            self.assertIn("unknown command frob", talk.typed("frob\r", "(1) "))
             talk.typed("not this", "not this")
             self.assertIn("^C", talk.interrupted("(1) "))
             talk.typed("q\r", "")

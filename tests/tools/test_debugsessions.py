@@ -279,7 +279,7 @@ class SessionsTest(ToolTest):
                 printed = list(session.commands.run(line))
             except Refused as why:
                 # What no search finds is refused, and changes nothing.
-                self.assertRegex(f"{why}", "it never holds|too many points|more than 64 conditions", told)
+                self.assertRegex(f"{why}", "it never holds|too many breakpoints|more than 64 conditions", told)
                 continue
             does(model)
             self.assertEqual(debugger.count, model.count, told)

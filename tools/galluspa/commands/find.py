@@ -48,7 +48,7 @@ def parser() -> Parser:
         "--from", metavar="N", dest="first", type=whole_number(0, COUNTS), default=0, help="the count to begin at (default 0)"
     )
     options.add_argument(
-        "--to", metavar="N", type=whole_number(0, COUNTS), help="the count to end before (default: that of the last checkpoint)"
+        "--to", metavar="N", type=whole_number(0, COUNTS), help="end count, exclusive (default: that of the last checkpoint)"
     )
     which = options.add_mutually_exclusive_group()
     which.add_argument("--last", action="store_true", help="find the last instruction")

@@ -89,7 +89,7 @@ def parser() -> Parser:
             Compares another emulator with the machine on random sessions, and makes the first one on which they
             differ as small as it can: fewer instructions, inputs, pages and bits. It leaves a folder with the
             session, its recording, its source, and what says which instruction differs, what it should give and
-            what it gave. COMMAND is a process that is kept and answers sessions over its standard input and output
+            what it gave. COMMAND is a persistent process that answers sessions over its standard input and output
             (docs/testing-an-emulator.md has the bytes). If {PLACE} is in an argument, it is a command for each
             session, as for `galluspa bisect`; then {SESSION}, {RECORDING} and {MEMORY} stand for the names of files."""
         ),

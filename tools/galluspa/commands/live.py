@@ -62,5 +62,5 @@ def main(asked: Namespace) -> int:
         raise Refused(f"{page}: no live page")
     print(printable(str(page)), flush=True)
     if not webbrowser.open(page.as_uri()):
-        raise Refused("found no browser: open this file in one")
+        raise Refused("no browser found: open this file yourself")
     return OK

@@ -43,8 +43,7 @@ def parser() -> Parser:
         action="append",
         default=[],
         help=f"print words of memory, too, from the one at an address on (default {MEMORY_WORDS} "
-        "words): each as a word, as a number, as bytes and as characters; may be used several "
-        "times",
+        "words): each as a word, as a number, as bytes and as characters; repeatable",
     )
     options.add_argument(
         "--stack",

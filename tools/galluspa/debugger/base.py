@@ -91,7 +91,7 @@ class Base:
 
 def nothing(text: str) -> None:
     if text:
-        raise Refused(f"{shown(text)}: nothing comes after this command")
+        raise Refused(f"{shown(text)}: this command takes no arguments")
 
 
 def times(text: str) -> int:

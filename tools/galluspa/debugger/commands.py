@@ -43,8 +43,8 @@ class Commands(Moves, Points, Views, Whys):
         if len(meant) == 1:
             return next(iter(meant.values()))
         if meant:
-            raise Refused(f"{shown(name)} may mean {', '.join(sorted(meant))}")
-        raise Refused(f"{shown(name)} is no command: help lists them")
+            raise Refused(f"ambiguous command {shown(name)}: {', '.join(sorted(meant))}")
+        raise Refused(f"unknown command {shown(name)}: try help")
 
     def parted(self, line: str) -> "tuple[Command, str]":
         """Returns the command that a line names, and its arguments."""
@@ -53,7 +53,7 @@ class Commands(Moves, Points, Views, Whys):
             raise Refused(f"a command has at most {MOST_CHARACTERS:,} characters")
         found = re.match(r"[A-Za-z-]+", line)
         if not found:
-            raise Refused(f"{shown(line)} is no command: help lists them")
+            raise Refused(f"unknown command {shown(line)}: try help")
         return self.command(found[0]), line[found.end() :].lstrip()
 
     def run(self, line: str) -> Iterator[str]:

@@ -9,7 +9,7 @@ from galluspa.formats.symbols import Source, shown
 from galluspa.process.cli import Refused
 
 LISTED = 10
-NO_LINE = "no line of a source is known there: disassemble shows instructions"
+NO_LINE = "no source line here: disassemble shows instructions"
 
 
 @dataclass

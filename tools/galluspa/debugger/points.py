@@ -80,7 +80,7 @@ class Points(Base):
         words = self.place(text)
         conditions = conditions_of([what, *words], self.debugger.symbols)
         if len(conditions) > 1:
-            raise Refused(f"one place, please: {shown(text)} has {len(conditions)}")
+            raise Refused(f"expected one place: {shown(text)} has {len(conditions)}")
         alternatives = self._watched_if(conditions[0], when)
         yield self._added(f"{what} {' '.join(words)}", conditions[0], is_after=True, alternatives=alternatives, when=when)
 
@@ -128,7 +128,7 @@ class Points(Base):
         used = sum(len(it.raws) for point in self.debugger.points.values() if point is not but for it in point.conditions)
         # A move of the debugger takes up to four conditions of its own.
         if used + sum(len(it.raws) for it in more) > MOST_CONDITIONS - 4:
-            raise Refused("there are too many points: delete some")
+            raise Refused("too many breakpoints and watchpoints: delete some")
 
     # Changes of points
 

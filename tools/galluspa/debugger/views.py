@@ -63,7 +63,7 @@ class Views(Displays, Listings):
             return self._inputs()
         address = address_at(rest or "PC", moment_of(machine), symbols)
         source = symbols.line_at(address)
-        line = source.text if source else "no line of a source is known"
+        line = source.text if source else "no source line here"
         return [line if meant[0] == "line" else symbols.text(address) or "no name reaches it"]
 
     def _registers(self, wanted: str) -> Iterator[str]:
@@ -71,7 +71,7 @@ class Views(Displays, Listings):
         names = {name.removeprefix("$").upper().replace("SP", "R14").replace("LNK", "R15") for name in wanted.split()}
         unknown = names - {line.split()[0].upper() for line in lines}
         if unknown:
-            raise Refused(f"{shown(min(unknown))} is no register")
+            raise Refused(f"unknown register {shown(min(unknown))}")
         yield from (line for line in lines if not names or line.split()[0].upper() in names)
 
     def _inputs(self) -> Iterator[str]:

@@ -1,4 +1,4 @@
-"""Another emulator as a process that is kept for many sessions: each goes to its standard input, and the answer, the state
+"""Another emulator as a persistent process for many sessions: each goes to its standard input, and the answer, the state
 at its end, comes from its standard output (docs/testing-an-emulator.md has the bytes)."""
 
 import contextlib
@@ -95,7 +95,7 @@ class KeptEmulator:
         """Returns the next answer, to the session with the number `wanted`, which has `count` instructions."""
         number, sent, many = HEAD.unpack(exchange.read(HEAD.size))
         if number != wanted:
-            raise Refused(f"{self.command}: answers with {number} and not with the session's number, {wanted}")
+            raise Refused(f"{self.command}: session number {number}, expected {wanted}")
         if sent > count or many > PLACES:
             raise Refused(f"{self.command}: answers with {sent:,} bytes that were sent, and {many:,} pages")
         state, content = exchange.read(STATE.size), exchange.read(sent)

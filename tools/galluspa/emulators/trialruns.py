@@ -1,4 +1,4 @@
-"""Runs trials on the proved machine and on another emulator, which is a command for each or a process that is kept, and
+"""Runs trials on the proved machine and on another emulator, which is a command for each or a persistent process, and
 says in which parts they differ."""
 
 import ctypes
@@ -70,7 +70,7 @@ def replaced(word: str, files: dict[str, str]) -> str:
 
 
 def other_of(words: Sequence[str], seconds: float, library: Library, folder: Path) -> Other:
-    """Returns the other emulator: a command that names a count, or else a process that is kept."""
+    """Returns the other emulator: a command that names a count, or else a persistent process."""
     if has(words, PLACE):
         return Commanded(words, seconds, library, folder)
     return KeptEmulator(words, seconds)

@@ -78,7 +78,7 @@ def of_recording(name: str, read: Recording) -> Session:
     inexpressible = [name for name in ("stop", "timer", "switches", "LEDs", "mouse", "serial", "keys") if numbers[name]]
     if inexpressible:
         parts = ", ".join(inexpressible)
-        raise Refused(f"{name}: its initial state has {parts} other than 0, which a session cannot say")
+        raise Refused(f"{name}: its initial state has {parts} other than 0, which a session cannot set")
     return Session(
         registers=list(first.registers),
         **numbers_of(first),

@@ -21,8 +21,7 @@ def add_directory_option(options: Parser, shown: str) -> None:
         type=Path,
         action="append",
         default=[],
-        help=f"also show {shown} that are below this folder (default: those below the folder of the symbol file); may be used "
-        "several times",
+        help=f"also show {shown} that are below this folder (default: those below the folder of the symbol file); repeatable",
     )
 
 

@@ -91,7 +91,7 @@ def called(command: Sequence[object], folder: Path) -> None:
 def kit() -> Path:
     """Returns the folder of the Rattle kit."""
     if not shutil.which("rt"):
-        raise Refused("there is no command rt: install the Rattle kit")
+        raise Refused("rt not found: install the Rattle kit")
     return Path(subprocess.run(["rt", "doc"], stdout=subprocess.PIPE, check=True, text=True).stdout.strip()).parent
 
 

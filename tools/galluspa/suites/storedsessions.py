@@ -151,7 +151,7 @@ def image_of(program: Program, path: Path, address: int | None, assignments: Seq
     if not content.startswith(b"ORSR") and OF_SESSION not in content:
         return Image(None, image_at(str(path), content, address or 0), assignments)
     if address is not None:
-        raise Refused(f"--at: {path} is no memory image, and says itself where its words are")
+        raise Refused(f"--at: {path} is not a raw memory image, and says itself where its words are")
     return Image(session_of(program, str(path), content), b"", assignments)
 
 
