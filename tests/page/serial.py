@@ -96,6 +96,7 @@ READERS = {
     "after times that look random": Reader(AT_RANDOM, 50_000, 50_000, 50_000, 75, 45_000, 100),
     "in lines": Reader(AFTER_LINES, 20_000, 20_000, 20_000, 60, 20_000, 10),
     "two at once": Reader(AFTER_TWO, 200, 200, 200, 60, 340, 0.5),
+    "each six and a half thousand instructions": Reader("        MOV R5, 3250" + ROUNDS, 300, 300, 300, 60, 3_700, 0.8),
     "each hundred thousand instructions": Reader("        MOV R5, 50000" + ROUNDS, 200, 200, 200, 60, 200, 0.3),
     "until it stops": Reader(STOPPING, 50_000, 5_001, 5_001, 12, 100_000, 10),
     "once": Reader("stays:  B stays", 5_000, 2, 1, 60, 0, 0),

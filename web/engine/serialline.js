@@ -16,7 +16,7 @@ const GAP = 200, LOADS_EACH = 4;
 const MOST = 2048, MOST_STEPS = 200000, COPY_STEPS = 10000, MANY = 16;
 // At a distance above FAR, in instructions, a piece costs less than a copy. A piece at whose end its byte was read makes the next one shorter, by a share that grows from
 // SOONER to SOONEST; any other piece makes it longer, by the share LATER.
-const FAR = 6000, SOONER = 1 / 64, SOONEST = 1 / 8, LATER = 1 / 8;
+const FAR = 6000, SHORTEST = FAR + 1, SOONER = 1 / 64, SOONEST = 1 / 8, LATER = 1 / 8;
 
 export class SerialLine {
   // How many bytes a copy gets next, and their distance in instructions.
@@ -45,10 +45,12 @@ export class SerialLine {
     return this.end = Math.min(whole, this.end);
   }
 
-  /** Fits the length of pieces, after one at whose end its byte was read, or was not.
+  /** Fits the length of pieces, after one at whose end its byte was read, or was not. Copies come next only if the shortest piece was long enough: a program that
+   * needs a little longer would be late in each copy.
    * @param {boolean} isRead */
   follow(isRead) {
-    this.apart = Math.min(MOST_STEPS, Math.ceil(this.apart * (isRead ? 1 - this.sooner : 1 + LATER)));
+    const next = Math.ceil(this.apart * (isRead ? 1 - this.sooner : 1 + LATER)), least = this.apart > SHORTEST ? SHORTEST : 0;
+    this.apart = Math.min(MOST_STEPS, Math.max(least, next));
     this.sooner = isRead ? Math.min(SOONEST, 2 * this.sooner) : SOONER;
     this.many = 1;
   }
