@@ -277,6 +277,11 @@ interface Passed {
   part: string | null;
 }
 
+interface Uint8ArrayConstructor {
+  /** Not every browser has it. */
+  fromBase64?: (text: string) => Bytes;
+}
+
 interface Failure {
   refused?: string;
   broken?: string;
@@ -506,7 +511,7 @@ interface Changes {
   isDone: boolean;
 }
 
-/** How often the machine executed each word from a count on and before another: the words that it executed, and how often. */
+/** How often the machine executed each word in [from, to): the words that it executed, and how often. */
 interface Visited {
   from: number;
   to: number;
@@ -559,7 +564,7 @@ interface Framed {
   rows: FrameRow[];
 }
 
-/** How many instructions the machine did in procedures from a count on and before another: in each by itself, and in each with what it called; and how
+/** How many instructions the machine did in procedures in [from, to): in each by itself, and in each with what it called; and how
  * often each was called. */
 interface Profiled {
   from: number;
@@ -699,6 +704,7 @@ interface Wanted {
 /** What each request is given, and what its answer is. */
 interface Requests {
   start: [{ module: WebAssembly.Module }, boolean];
+  startPacked: [{ packed: string }, WebAssembly.Module];
   openRecording: [{ bytes: Bytes; checkpoint: number }, Opened];
   openSession: [{ bytes: Bytes; isAlwaysKept?: boolean }, Opened];
   openImage: [{ image: Bytes; address: string; registers: string }, Opened];

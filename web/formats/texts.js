@@ -1,10 +1,9 @@
 // @ts-check
 /* Texts of numbers, names and errors, as the page shows them. */
 
-// Made once: toLocaleString() makes one for each number.
-const GROUPS = new Intl.NumberFormat("en");
+// By no formatter of Intl: the first one takes longer than all else at the start of a page or of a worker.
 /** @param {number} number */
-export const grouped = (number) => GROUPS.format(Math.floor(number));
+export const grouped = (number) => `${Math.floor(number)}`.replace(/\B(?=(?:\d{3})+$)/g, ",");
 /** Returns a time in seconds, or as a clock shows it from a hundred seconds on, as in 0:01:40.
  * @param {number} seconds
  * @param {number} digits */

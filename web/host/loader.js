@@ -1,6 +1,6 @@
 // @ts-check
 /* The page's first script: it unpacks the page's own one, and runs it. The policy of the page names the hashes of both. */
-import { beginUnpacking, beginWorker, unpacked } from "./packed.js";
+import { beginWorker, unpacked } from "./packed.js";
 
 // A report that the page makes has the machine as it is before anything changes it, and what follows up to this script, which ends it.
 const script = document.currentScript, machine = document.getElementById("galluspa"), built = machine?.cloneNode(true);
@@ -47,6 +47,5 @@ function keepClicks() {
 const wholePage = document.readyState === "loading" ? new Promise((goOn) => addEventListener("DOMContentLoaded", goOn)) : Promise.resolve();
 const clickAgain = keepClicks();
 // A report, which has the machine in a part of it, starts it at the first use; the page needs these at once.
-const isReport = document.getElementById("live") !== null, begunWorker = isReport ? Promise.resolve() : beginWorker("worker");
+const isReport = document.getElementById("live") !== null, begunWorker = isReport ? Promise.resolve() : beginWorker("worker", "module");
 Promise.all([unpacked("main"), begunWorker]).then(([bytes]) => runScript(bytes)).then(() => wholePage).then(clickAgain).catch(showFailure);
-if (!isReport) beginUnpacking("module");

@@ -21,11 +21,11 @@ export async function placeWorker() {
   setWorkerScript(scripts.begun.address);
 }
 
-/** Returns a worker: the one that was begun, once, or a new one. */
+/** Returns a worker: the one that was begun, once, with what that answers, or a new one. */
 function takeWorker() {
-  const { begun, worker, type } = scripts;
+  const { begun, worker: script, type } = scripts, worker = begun?.worker ?? null;
   scripts.begun = null;
-  return begun?.worker ?? new Worker(worker, { type });
+  return { worker: worker ?? new Worker(script, { type }), started: worker && begun ? begun.started : null };
 }
 
 /** @typedef {import("./packed.js").Begun} Begun */
@@ -33,23 +33,38 @@ function takeWorker() {
 /** Bad input, or a request that cannot be met. Its message is one line for the user. */
 export class Refusal extends Error {}
 
+/** Returns the answer in what a worker posted, or throws its refusal.
+ * @param {{ answer?: any } & Failure} data */
+function answerIn(data) {
+  if ("answer" in data) return data.answer;
+  throw new Refusal(data.refused ?? data.broken);
+}
+
 /** A worker that answers requests. Messages that answer no request go to `news`. */
 export class Helper {
   /** @type {Map<number, { resolve: (answer: any) => void, reject: (error: Refusal) => void }>} */
   waits = new Map();
   broken = "";
 
-  /** The worker is made at once, and asked to start once the module is there. Nothing else is asked before.
-   * @param {WebAssembly.Module | Promise<WebAssembly.Module>} module
+  /** The worker is made at once, and asked to start, unless it was begun with the module. Nothing else is asked before it is `ready`, with the module.
+   * @param {WebAssembly.Module | (() => Promise<WebAssembly.Module>)} module what the worker starts with, or how to get it
    * @param {(news: any) => void} news */
   constructor(module, news) {
-    this.worker = takeWorker();
+    const { worker, started } = takeWorker();
+    this.worker = worker;
     this.worker.onmessage = ({ data }) => (data.id === undefined ? news(data) : this.settle(data));
     this.worker.onerror = (event) => this.fail(event);
     this.worker.onmessageerror = (event) => this.fail(event);
-    this.ready = module instanceof Promise ? module.then((it) => this.ask("start", { module: it })) : this.ask("start", { module });
+    this.ready = started?.then(answerIn) ?? this.start(module);
     // A worker that does not start rejects its requests, too: callers see that error.
     this.ready.catch(() => {});
+  }
+
+  /** @param {WebAssembly.Module | (() => Promise<WebAssembly.Module>)} given */
+  async start(given) {
+    const module = typeof given === "function" ? await given() : given;
+    await this.ask("start", { module });
+    return module;
   }
 
   /** Asks for something. A request that is refused, or that a broken worker cannot answer, is rejected with a refusal.
@@ -69,8 +84,11 @@ export class Helper {
   settle(data) {
     const wait = this.waits.get(data.id);
     this.waits.delete(data.id);
-    if ("answer" in data) wait?.resolve(data.answer);
-    else wait?.reject(new Refusal(data.refused ?? data.broken));
+    try {
+      wait?.resolve(answerIn(data));
+    } catch (error) {
+      wait?.reject(/** @type {Refusal} */ (error));
+    }
   }
 
   /** Rejects what waits, and all that is asked later: the worker is broken.

@@ -159,17 +159,15 @@ function dropFiles() {
 
 /** Starts the machine. Returns whether this browser can run it. */
 export async function started() {
-  const compiled = unpacked("module").then((bytes) => WebAssembly.compile(bytes)), placed = placeWorker().then(() => new Helper(compiled, heard));
-  // The worker starts, and the module is compiled, while the page makes its parts. What fails is said after that.
-  const begun = Promise.all([compiled, placed]);
-  await Promise.race([placed, begun]).catch(() => {});
+  // The worker starts while the page makes its parts. What fails is said after that.
+  const begun = startLive();
+  begun.catch(() => {});
   makeDevices();
   makeRegisters();
   makeTimeline();
   showSized();
   try {
-    const [module, live] = await begun, past = new Past(module, heardPast);
-    await live.ready;
+    const { module, live } = await begun, past = new Past(module, heardPast);
     setMachine(module, live, past);
     past.connect(live);
   } catch (error) {
@@ -180,6 +178,13 @@ export async function started() {
   listen();
   dropFiles();
   return true;
+}
+
+/** Starts the worker of the live machine. One that was not begun with the module gets it from here. */
+async function startLive() {
+  await placeWorker();
+  const live = new Helper(async () => WebAssembly.compile(await unpacked("module")), heard);
+  return { module: await live.ready, live };
 }
 
 /** Starts the page. */

@@ -6,7 +6,7 @@
  * have no id, and a request without an id gets no answer. */
 import { ASSEMBLER } from "./assembling.js";
 import { CHECKING } from "./checking.js";
-import { faultOf, library, machine, start } from "./context.js";
+import { faultOf, library, machine, start, startPacked } from "./context.js";
 import { LIVE } from "./live.js";
 import { QUERIES } from "./livequeries.js";
 import { History } from "./past.js";
@@ -72,7 +72,7 @@ const SEARCH_POOL = {
 // All
 
 /** @type {{ [ask: string]: (given: any) => unknown }} */
-const TASKS = { start, ...LIVE, ...QUERIES, ...CHECKING, ...PAST, ...SEARCH_POOL, ...ASSEMBLER };
+const TASKS = { start, startPacked, ...LIVE, ...QUERIES, ...CHECKING, ...PAST, ...SEARCH_POOL, ...ASSEMBLER };
 
 onmessage = ({ data: { id, ask, ...given } }) => {
   /** @param {object} message */

@@ -1,7 +1,7 @@
 // @ts-check
 /* Reads a file that this page exported, or a report: both have a recording, and an exported one has its project beside it. The file is read as text, and only
  * the data of these two parts is taken: nothing of it is shown as HTML, and none of its scripts runs. */
-import { inflated } from "../../host/packed.js";
+import { inflated } from "../../formats/inflating.js";
 import { Refusal } from "../../host/requests.js";
 import { readProject } from "../../formats/project.js";
 import { LONGEST_RECORDING } from "../../formats/limits.js";

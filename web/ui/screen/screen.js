@@ -81,13 +81,14 @@ function roomForScreen() {
   return [all - (isWide ? SIDE_ROOM : MARGIN), Math.max(LEAST_HEIGHT, room)];
 }
 
-/** Gives the screen the largest size that fits; or a whole factor of its dots, if that fills most of the room. */
+/** Gives the screen the largest size that fits; or a whole factor of its dots, if that fills most of the room. All is measured before anything changes, so that the
+ * browser lays the page out once. */
 export function fitScreen() {
-  const [wide, high] = roomForScreen(), most = Math.min(wide, high * 4 / 3);
+  const [wide, high] = roomForScreen(), stay = el("stay").offsetHeight, most = Math.min(wide, high * 4 / 3);
   const whole = Math.floor(most * devicePixelRatio / DOTS_WIDE) * DOTS_WIDE / devicePixelRatio, isWhole = whole > WHOLE_SHARE * most;
   const { style } = /** @type {HTMLElement} */ (document.getElementById("galluspa"));
   style.setProperty("--screen", `${isWhole ? whole : most}px`);
-  style.setProperty("--stay", `${el("stay").offsetHeight}px`);
+  style.setProperty("--stay", `${stay}px`);
   el("screen").style.imageRendering = isWhole ? "pixelated" : "auto";
 }
 
