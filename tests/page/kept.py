@@ -114,26 +114,32 @@ def keep_seldom(desk: Desk) -> None:
     print("kept: less often while a machine waits, and with each input")
 
 
+# How two pages can know of each other: by the browser's locks; by asking, as if they were served over plain http; or not at all, as if one of them were frozen.
+WAYS = {
+    "locks": "",
+    "asking": "Object.defineProperty(navigator, 'locks', { value: undefined })",
+    "frozen": "Object.defineProperty(navigator, 'locks', { value: undefined }); BroadcastChannel.prototype.postMessage = () => {}",
+}
+
+
 def resume_twice(desk: Desk) -> None:
-    """Two tabs that resume one recording keep two, with locks and without them."""
+    """Two tabs that resume one recording keep two, however they know of each other."""
     page = desk.page
-    for has_locks in (True, False):
-        if not has_locks:
-            page.answer("Object.defineProperty(navigator, 'locks', { value: undefined })")
+    for way, script in WAYS.items():
+        page.answer(script)
         desk.draw()
         first = type_and_pause(desk, "a")
-        with another(desk, f"tab-{has_locks}") as tab:
-            if not has_locks:
-                tab.page.answer("Object.defineProperty(navigator, 'locks', { value: undefined })")
+        with another(desk, way) as tab:
+            tab.page.answer(script)
             tab.page.wait("el('kept-list').firstChild")
             tab.page.answer(f"{BUTTONS}[0].click()")
             tab.page.wait("galluspa.work().generation && galluspa.frame().hasOwn")
-            if has_locks:
+            if way != "frozen":
                 tab.expect_notice("a second resume", "This recording is open in another page: what you do here is kept as a copy.")
             tab.go_on()
             second = type_and_pause(tab, "b")
-            # Without locks the second tab continues the item, and the first one gets a copy as soon as it continues.
-            own = [["draw", first, "a"]] if has_locks else []
+            # If the first one is frozen, the second one continues the item, and the first one gets a copy as soon as it continues.
+            own = [] if way == "frozen" else [["draw", first, "a"]]
             expect("what two tabs keep", sorted(items(page)), sorted([*own, ["draw", second, "ab"]]))
             desk.go_on()
             third = type_and_pause(desk, "c")
@@ -141,7 +147,7 @@ def resume_twice(desk: Desk) -> None:
             tab.expect_sound()
         forget_all(desk)
     desk.reload()
-    print("kept: two tabs that resume one recording keep two, with locks and without")
+    print("kept: two tabs that resume one recording keep two: with locks, by asking each other, and if one is frozen")
 
 
 def forget_and_undo(desk: Desk) -> None:
@@ -184,7 +190,9 @@ def ask_before_dropping(desk: Desk) -> None:
     for says, name in (("false", "draw"), ("true", "face")):
         page.answer(f"window.says = {says}; openBytes('face.json', new TextEncoder().encode(JSON.stringify(examples().face)))")
         expect(
-            "what is asked, and what is open", page.answer("[asked.endsWith('and drop it?'), galluspa.work().name]"), [True, name]
+            "what is asked, and what is open",
+            page.answer("[asked.endsWith('Discard it and open another machine?'), galluspa.work().name]"),
+            [True, name],
         )
     page.answer("IDBObjectStore.prototype.put = puts")
     print("kept: what cannot be kept is said to be, and dropped only when the user says so")
@@ -219,7 +227,7 @@ def return_unkept(desk: Desk) -> None:
     page.answer("openExample('face')")
     expect(
         "what is asked, and what is open",
-        page.answer("[asked.endsWith('and drop it?'), galluspa.work().branch]"),
+        page.answer("[asked.endsWith('Discard it and open another machine?'), galluspa.work().branch]"),
         [True, "branch 2"],
     )
     page.answer("IDBObjectStore.prototype.put = puts; window.confirm = () => true")

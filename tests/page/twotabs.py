@@ -23,18 +23,28 @@ DENY = """
   LockManager.prototype.request = () => Promise.reject(denied());
 }
 """
+# A page that is served over plain http has no locks.
+NO_LOCKS = "Object.defineProperty(Navigator.prototype, 'locks', { value: undefined })"
 
 
 @contextmanager
-def another(who: Person, name: str) -> Iterator[Person]:
-    """Another tab of the same browser with the page, which is in front from then on."""
+def another(who: Person, name: str, script: str = "") -> Iterator[Person]:
+    """Another tab of the same browser with the page, which is in front from then on. A script may run before those of the page."""
     folder = who.folder / name
     folder.mkdir()
     tab = Person(who.browser, folder)
     tab.page.show()
+    if script:
+        begin_with(tab, script)
     yield tab
     if tab.page in who.browser.pipe.pages:
         tab.page.close()
+
+
+def begin_with(who: Person, script: str) -> None:
+    """Loads the page anew, with a script that runs before its own."""
+    who.page.begin_with(script)
+    who.reload()
 
 
 def open_echo(who: Person) -> None:
@@ -161,10 +171,36 @@ def note_in_copy(folder: Path) -> None:
 
 def copy_source(folder: Path) -> None:
     """A source that was never run and is opened in both tabs is a copy in the second one, which says so; both are kept with what is written in each."""
+    write_in_both(folder, "")
+    print("two tabs: a source that both open is a copy in the second one, which says so")
+
+
+def copy_source_by_asking(folder: Path) -> None:
+    """So it is if the browser has no locks: then the tabs ask each other. What one has open is not deleted in the other."""
+    write_in_both(folder, NO_LOCKS)
     with begun(folder) as one:
+        begin_with(one, NO_LOCKS)
+        begin_project(one)
+        one.type("a")
+        one.wait_until_kept()
+        with another(one, "three", NO_LOCKS) as two:
+            before = two.page.answer(f"{HEADS}.length")
+            open_kept(two, "Delete")
+            two.page.wait(f"{NOTICE} === '{OPEN_THERE}'")
+            expect("what is kept", two.page.answer(f"{HEADS}.length"), before)
+            for who in (one, two):
+                who.expect_sound()
+    print("two tabs: without locks they ask each other, and a source that both open is a copy in the second one, too")
+
+
+def write_in_both(folder: Path, script: str) -> None:
+    """Writes in a source in one tab, opens it in another one, and writes in it in both."""
+    with begun(folder) as one:
+        if script:
+            begin_with(one, script)
         open_echo(one)
         one.page.wait("!isSourceUnsafe()")
-        with another(one, "two") as two:
+        with another(one, "two", script) as two:
             continue_with(two, "Source echo.asm")
             two.page.wait(f"{TEXT}.includes(';One ')")
             expect("what the second tab says", two.page.answer(NOTICE), COPY.replace("recording", "source"))
@@ -182,7 +218,6 @@ def copy_source(folder: Path) -> None:
             expect("what is kept", found, {";More ;One", ";Two ;One"})
             for who in (one, two):
                 who.expect_sound()
-    print("two tabs: a source that both open is a copy in the second one, which says so")
 
 
 def take_logged(folder: Path) -> None:
@@ -303,8 +338,7 @@ def deny_one(folder: Path) -> None:
         pin(one, "first")
         wait_until_noted(one)
         with another(one, "two") as two:
-            two.page.begin_with(DENY)
-            two.reload()
+            begin_with(two, DENY)
             two.page.wait(
                 "document.querySelector('#g-kept-list p')?.textContent.startsWith('What this browser keeps cannot be read: ')"
             )
@@ -324,4 +358,4 @@ def deny_one(folder: Path) -> None:
     print("two tabs: one in which nothing can be kept says so, and changes nothing of what the other keeps")
 
 
-TASKS = (work_in_both, note_in_copy, copy_source, take_logged, lock_at_once, delete_open, end_one, deny_one)
+TASKS = (work_in_both, note_in_copy, copy_source, copy_source_by_asking, take_logged, lock_at_once, delete_open, end_one, deny_one)

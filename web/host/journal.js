@@ -2,6 +2,7 @@
 /* A work: the recording in progress of one run of the machine, as far as the page knows and the browser keeps it. A run that is taken over
  * from its past, and what it was before, are two works, branches of one family. */
 import { INPUT_BYTES } from "../formats/layout.js";
+import { locked } from "./locks.js";
 import { symbolFile } from "./names.js";
 import { joined } from "../formats/states.js";
 import { Typed } from "./typed.js";
@@ -146,18 +147,4 @@ export class Work {
     this.release?.();
     Object.assign(this, { release: null, isLocked: false });
   }
-}
-
-/** Takes the lock of an item: returns how to release it, or null if another page has it. A browser without locks has none that
- * another could have: there each write looks whether another page wrote the item since.
- * @param {number | string} id
- * @returns {Promise<{ release: () => void, isLocked: boolean } | null>} */
-export function locked(id) {
-  const free = { release: () => {}, isLocked: false };
-  if (!navigator.locks) return Promise.resolve(free);
-  return new Promise((resolve) => {
-    /** @param {Lock | null} lock */
-    const held = (lock) => (lock ? new Promise((release) => resolve({ release: () => release(null), isLocked: true })) : resolve(null));
-    navigator.locks.request(`galluspa-${id}`, { ifAvailable: true }, held).catch(() => resolve(free));
-  });
 }

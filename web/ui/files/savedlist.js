@@ -22,7 +22,8 @@ import { deleteStorage, withKept } from "../../host/storage.js";
 import { resumeNames } from "../code/symbolfiles.js";
 import { many, messageOf, plainName } from "../../formats/texts.js";
 import { offerToContinue } from "../screen/welcome.js";
-import { locked, Work } from "../../host/journal.js";
+import { Work } from "../../host/journal.js";
+import { locked } from "../../host/locks.js";
 
 const MOST_NAME = 80;
 

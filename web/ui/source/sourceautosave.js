@@ -8,6 +8,7 @@ import { attempt, closeMenus, notice, set } from "../../host/elements.js";
 import { publish } from "../../host/events.js";
 import { aboutId, dropItems, isSourceId, sizeText, SOURCE, summaries } from "../../host/items.js";
 import { inTurn } from "../../host/autosave.js";
+import { locked } from "../../host/locks.js";
 import { pins } from "../../host/pins.js";
 import { Refusal } from "../../host/requests.js";
 import { storage, withKept, writtenAtOnce } from "../../host/storage.js";
@@ -15,7 +16,6 @@ import { runningProgram } from "./sourceprogram.js";
 import { showTab } from "../screen/tabs.js";
 import { isLesson } from "../../formats/project.js";
 import { many, messageOf, plainName } from "../../formats/texts.js";
-import { locked } from "../../host/journal.js";
 
 const SOON_MS = 400, AGAIN_MS = 5000, MOST_NAME = 80;
 /** A source of a program: its undo, and the lines that have breakpoints, from 0.

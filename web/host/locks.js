@@ -1,0 +1,71 @@
+// @ts-check
+/* The locks of what the browser keeps: an item that is open in one page is a copy in another one. For a page that is served over plain http a browser
+ * has no Web Locks: there the pages ask each other. */
+
+/** How to release a lock, and whether the browser holds it: no other page can write the item meanwhile.
+ * @typedef {{ release: () => void, isLocked: boolean }} Held */
+
+// How long other pages have to say that they have an item, in milliseconds.
+const ANSWER_MS = 150;
+// Where pages ask each other: the names of the locks that this page has, and the channel on which it hears of others.
+/** @type {Set<string>} */
+const own = new Set();
+/** @type {BroadcastChannel | null} */
+let channel = null;
+
+/** Takes the lock of an item: returns how to release it, or null if another page has it, or this one.
+ * @param {number | string} id
+ * @returns {Promise<Held | null>} */
+export function locked(id) {
+  const name = `galluspa-${id}`;
+  return navigator.locks ? lockedByBrowser(name) : lockedByAsking(name);
+}
+
+/** A browser that denies its locks has none that another page could have.
+ * @param {string} name
+ * @returns {Promise<Held | null>} */
+function lockedByBrowser(name) {
+  return new Promise((resolve) => {
+    /** @param {Lock | null} lock */
+    const held = (lock) => (lock ? new Promise((release) => resolve({ release: () => release(null), isLocked: true })) : resolve(null));
+    navigator.locks.request(name, { ifAvailable: true }, held).catch(() => resolve({ release: () => {}, isLocked: false }));
+  });
+}
+
+/** Asks the other pages whether one of them has the lock. Of two that ask at once neither gets it. A page that the browser has frozen does not answer, so each write of
+ * a recording also looks at who wrote it last.
+ * @param {string} name
+ * @returns {Promise<Held | null>} */
+async function lockedByAsking(name) {
+  if (own.has(name)) return null;
+  own.add(name);
+  if (!(await isHadByAnother(name))) return { release: () => void own.delete(name), isLocked: false };
+  own.delete(name);
+  return null;
+}
+
+/** @param {string} name
+ * @returns {Promise<boolean>} */
+function isHadByAnother(name) {
+  const pages = opened();
+  return new Promise((resolve) => {
+    /** @param {MessageEvent} event */
+    const hear = ({ data }) => void (data.had === name && settle(true));
+    /** @param {boolean} isHad */
+    const settle = (isHad) => {
+      pages.removeEventListener("message", hear);
+      resolve(isHad);
+    };
+    pages.addEventListener("message", hear);
+    pages.postMessage({ asked: name });
+    setTimeout(settle, ANSWER_MS, false);
+  });
+}
+
+/** Returns the channel, on which this page says from now on what it has. */
+function opened() {
+  if (channel) return channel;
+  const pages = (channel = new BroadcastChannel("galluspa"));
+  pages.addEventListener("message", ({ data }) => own.has(data.asked) && pages.postMessage({ had: data.asked }));
+  return pages;
+}
