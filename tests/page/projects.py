@@ -10,7 +10,7 @@ from galluspa.commands.recording_of import recording_in
 from tests.page.desk import LONGEST_TASK_MS, NOTICE, REFUSED_LINE, SENT, Desk, expect, fail, program, shown
 from tests.page.source import DRAWS, open_source, run_source
 from tests.page.stops import press_button
-from tests.tools.samples import EXAMPLES
+from tests.tools.samples import EXAMPLES, rejoining
 
 ENTRIES = "[...el('kept-list').children].filter((it) => it.tagName === 'P').map((it) => it.textContent)"
 LABELS = "[...el('kept-list').children].filter((it) => it.tagName === 'BUTTON').map((it) => it.textContent)"
@@ -226,6 +226,35 @@ def keep_noted(desk: Desk) -> None:
     print("projects: one that was opened from a file is kept once a note is pinned in it")
 
 
+def ask_noted(desk: Desk) -> None:
+    """A note in a replay that is not over is not kept yet, which the page says; it asks before it is left or opens another machine."""
+    page = desk.page
+    begin_empty(desk)
+    desk.start("watched.orsr", rejoining(1))
+    press_button(desk, "tab-log")
+    press_button(desk, "note")
+    page.insert("look here")
+    page.press("Enter")
+    desk.expect_notice("a note in a replay", "The note is kept once the replay is over, or you continue from here.")
+    expect("whether the page asks before it is left", page.is_kept_open(), True)
+    page.dialogs.clear()
+    desk.click("draw")
+    page.wait("galluspa.work().name === 'draw'")
+    expect("what the page asks before it opens another machine", page.dialogs, ["confirm"])
+    desk.start("watched.orsr", rejoining(1))
+    press_button(desk, "tab-log")
+    press_button(desk, "note")
+    page.insert("look here")
+    page.press("Enter")
+    page.wait("pins.size === 1")
+    desk.click("run")
+    page.wait("!galluspa.frame().on && galluspa.frame().hasOwn && galluspa.work().isStored")
+    expect("whether the page asks once the replay is over", page.is_kept_open(), False)
+    desk.ready()
+    begin_empty(desk)
+    print("projects: a note in a replay that is not over: the page asks before it is lost, and keeps it once the replay is over")
+
+
 def project_in(file: bytes) -> dict[str, Any]:
     """Returns the project of an exported file."""
     found = re.search(rb'id="g-project">([^<]*)', file)
@@ -369,4 +398,4 @@ def teach(desk: Desk) -> None:
     print("projects: a lesson is written, exported, asked about and shown")
 
 
-TASKS = (fold_runs, list_hundred, export, keep_noted, refuse_hostile, open_false, teach)
+TASKS = (fold_runs, list_hundred, export, keep_noted, ask_noted, refuse_hostile, open_false, teach)

@@ -143,6 +143,9 @@ export function isUnsafe() {
   return work.isNewer && Boolean(latest?.hasOwn || work.typed.pieces.length);
 }
 
+/** Whether a note was pinned in a replay that is not over: it is kept with the recording once that is over, or the user continues from a count of it. */
+export const isNoteUnsafe = () => app.work.isNoted && Boolean(app.latest?.isReplay);
+
 /** Keeps what came: all of the machine if that was not written lately, else only what came since. What could not be kept is tried again by
  * time. */
 function keepNews() {
@@ -260,6 +263,6 @@ async function put(work, item) {
   });
   if (!isOther(found)) return written.about;
   await work.takeNew();
-  notice(`Another page goes on with the recording of ${work.name}: what you do here is kept as a copy.`);
+  notice(`${work.name} is open in another tab: what you do here is kept as a copy.`);
   return put(work, item);
 }

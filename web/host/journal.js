@@ -52,6 +52,8 @@ export class Work {
   isStored = false;
   isUnkept = false;
   isPinned = false;
+  // Whether a note was pinned in it while it was a replay, of which the browser keeps nothing.
+  isNoted = false;
   news = 0;
   safe = 0;
   /** @type {Journal[]} */

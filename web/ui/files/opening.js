@@ -12,7 +12,7 @@ import { LONGEST_SOURCE } from "../source/desk.js";
 import { attempt, closeMenus, el, named, notice, set } from "../../host/elements.js";
 import { isSnake } from "../screen/game.js";
 import { setPins } from "../../host/pins.js";
-import { followWork, inTurn, keep, leave } from "../../host/autosave.js";
+import { followWork, inTurn, isNoteUnsafe, keep, leave } from "../../host/autosave.js";
 import { names } from "../../host/names.js";
 import { isPage } from "./projectfile.js";
 import { examples } from "../../host/packed.js";
@@ -67,7 +67,7 @@ export async function openFiles(files) {
   const [first] = machines.length > 1 ? machines : symbols;
   // A trace is of the machine that came with it, unless that was refused.
   if (trace && number === chosen && (!machines.length || app.work.generation !== generation)) await compareTrace(trace);
-  if (machines.length > 1 || symbols.length > 1) notice(`Of ${files.length} files that came together the first one is opened: ${first.name}.`);
+  if (machines.length > 1 || symbols.length > 1) notice(`Opened the first of ${files.length} files: ${first.name}.`);
 }
 
 /** @param {File} file */
@@ -152,7 +152,8 @@ export async function mayLeave() {
   const late = setTimeout(() => notice(`Waiting for the browser to keep the recording of ${app.work.name} ..`), LATE_MS);
   await keep();
   clearTimeout(late);
-  const question = `This browser cannot keep the recording of ${app.work.name}. Open another machine, and drop it?`;
+  if (isNoteUnsafe() && !confirm(`The replay of ${app.work.name} is not over, so your notes in it are not kept. Discard them and open another machine?`)) return false;
+  const question = `This browser cannot keep the recording of ${app.work.name}. Discard it and open another machine?`;
   return !isAnyUnkept() || confirm(question);
 }
 

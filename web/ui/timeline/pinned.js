@@ -33,6 +33,10 @@ async function pinNote(event) {
   el("note").value = "";
   if (!text) return;
   pin(shownCount(), text);
+  if (app.latest?.isReplay) {
+    app.work.isNoted = true;
+    notice("The note is kept once the replay is over, or you continue from here.");
+  }
   if (!app.latest?.hasOwn) await app.live.ask("keepToo");
 }
 
