@@ -11,6 +11,9 @@ from tests.page.source import open_source
 from tests.tools.samples import record, tool
 
 BOARD = "[...el('board').querySelectorAll('tr')].slice(1).map((row) => [...row.children].map((it) => it.textContent))"
+# The heads that are shown.
+HEADS = "[...el('board').querySelectorAll('th')].filter((it) => it.checkVisibility()).map((it) => it.textContent)"
+WITHOUT_LESSON = ["", "project", "its recording", "by the model's checkpoints", "parts from the model"]
 # The words of the board's heads that are in two lines.
 BROKEN = """
 [...el("board").querySelectorAll("th")].filter((it) => it.firstChild && it.checkVisibility()).flatMap((it) => it.textContent.split(" ").filter((word) => {
@@ -52,9 +55,10 @@ def hand_in(desk: Desk) -> None:
     desk.drop_together(files)
     page.wait(f"el('board').open && ({BOARD}).length === {len(files)} && board.model && !board.worker")
     rows = dict(zip(files, page.answer(BOARD), strict=True))
+    expect("the heads that are shown, since no lesson came", page.answer(HEADS), WITHOUT_LESSON)
     expect("the row of the model", rows["model.html"][3:5], ["the model", ""])
-    expect("the row of the same program", rows["same.html"][3:5], ["the same at all 1 checkpoint", "nowhere"])
-    expect("what is seen of one with more lines", rows["noted.html"][3], "the same at all 1 checkpoint")
+    expect("the row of the same program", rows["same.html"][3:5], ["the same at its checkpoint", "nowhere"])
+    expect("what is seen of one with more lines", rows["noted.html"][3], "the same at its checkpoint")
     both = counts_in(SAME, rows["noted.html"][4])
     if not all(end - 10 < count <= end for count in both):
         fail(f"more lines are compared up to {both}, of {end}")
@@ -103,6 +107,27 @@ def made(desk: Desk, file: bytes, name: str, source: str, last: int) -> bytes:
     return exported_with(file, json.dumps(project).encode(), record({**session, "checkpoints": [last]}))
 
 
+def judge_lesson(desk: Desk) -> None:
+    """The steps of a lesson that a model has are judged for each hand-in, in a column that a board without a lesson does not have."""
+    page = desk.page
+    begin_empty(desk)
+    open_source(desk, "echo.asm", ECHOES.format(more=0))
+    run_with_key(desk, "a")
+    file = exported(desk, "echo")
+    # After the first instruction R1 has the address of the key codes; R2 is never written.
+    steps = [{"task": "Do it.", "see": "It is done.", "claim": {"at": 1, **claim}} for claim in ({"R1": 0xFFFFFFDC}, {"R2": 1})]
+    taught = {**project_in(file), "name": "model", "lesson": {"title": "Echo", "steps": steps}}
+    desk.drop_together({"model.html": exported_with(file, json.dumps(taught).encode()), "own.html": file})
+    page.wait(f"el('board').open && ({BOARD}).length === 2 && board.model && !board.worker")
+    expect("the heads that are shown", page.answer(HEADS), [*WITHOUT_LESSON, "by the lesson"])
+    for row in page.answer(BOARD):
+        if not row[5].startswith("1 of 2 steps; step 2: "):
+            fail(f"what the lesson says: {row}")
+    desk.click_on("el('board').querySelector('.close')")
+    page.wait("!el('board').open")
+    print("hand-ins: a column of the board says how many steps of the model's lesson each does")
+
+
 def take_turns(desk: Desk) -> None:
     """A comparison that takes long is shown as far as it is, holds no other up, and ends with the board."""
     page = desk.page
@@ -118,7 +143,7 @@ def take_turns(desk: Desk) -> None:
         f"el('board').open && ({BOARD})[1]?.[4].startsWith('so far the same up to ') && ({BOARD})[2]?.[4].startsWith('First ')"
     )
     row = page.answer(BOARD)[2]
-    expect("what is seen of both", [one[3] for one in page.answer(BOARD)[1:]], ["the same at all 1 checkpoint"] * 2)
+    expect("what is seen of both", [one[3] for one in page.answer(BOARD)[1:]], ["the same at its checkpoint"] * 2)
     if not row[4].startswith("First difference at line 2: R1 = 00000001 in the model, at 1; R1 = 00000002 in this one, at 1."):
         fail(f"where another program parts: {row}")
     page.press("Escape", number=27)
@@ -126,4 +151,4 @@ def take_turns(desk: Desk) -> None:
     print("hand-ins: a long comparison is shown as far as it is, holds no other up, and ends with the board")
 
 
-TASKS = (hand_in, take_turns)
+TASKS = (hand_in, judge_lesson, take_turns)

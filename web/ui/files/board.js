@@ -19,7 +19,7 @@ import { headlineOf } from "../screen/verdicts.js";
 const MOST = 200, SECONDS = 30;
 // How long a hand-in is compared with the model at most: in its first turn, and, if that is not enough, anew in later ones, each after all other hand-ins.
 const LAST = 60, TURNS = [2, 10, LAST];
-const HEADS = ["", "project", "its recording", "by the model's checkpoints", "parts from the model", "by the lesson"];
+const HEADS = ["", "project", "its recording", "by the model's checkpoints", "parts from the model", "by the lesson"], BY_LESSON = 5;
 /** A file that was handed in: what it has, or why it is refused; its row of cells; and whether it is known where it parts from the model.
  * @typedef {{ name: string, exported: import("./projectfile.js").Exported | null, cells: HTMLElement[], row: HTMLElement, isParted: boolean }} HandIn */
 
@@ -36,6 +36,9 @@ async function showBoard(files) {
   const turn = endJudging();
   board.all = files.slice(0, MOST).map(({ name }) => handIn(name));
   table.append(heads, ...board.all.map(({ row }) => row));
+  /** @param {boolean} isShown */
+  const showByLesson = (isShown) => [...table.rows].forEach(({ cells }) => (cells[BY_LESSON].hidden = !isShown));
+  showByLesson(false);
   el("board").replaceChildren(close, made("h2", "Hand-ins"), said, table);
   if (!el("board").open) el("board").showModal();
   el("board").onclose = endBoard;
@@ -43,6 +46,7 @@ async function showBoard(files) {
     await read(one, files[at].bytes);
     if (turn !== board.turn) return;
   }
+  showByLesson(board.all.some(({ exported }) => exported?.project?.lesson));
   board.model = board.all.find(({ name, exported }) => exported && /model|solution/i.test(name)) ?? null;
   // What else came with them does not wait for that.
   attempt(judgeAll);
@@ -130,7 +134,7 @@ async function compare({ exported, cells }, turn) {
   if (turn !== board.turn || !found) return;
   if ("refused" in found) return cells[3].replaceChildren(found.refused);
   const { line, counts } = found, { accepted, wrong } = readLine(line);
-  cells[3].replaceChildren(accepted ? `the same at all ${many(counts.length, "checkpoint")}` : wrong ? `not the same at checkpoint ${wrong.number} of ${counts.length}, at ${grouped(wrong.count)}: ${wrong.part}` : line);
+  cells[3].replaceChildren(accepted ? (counts.length === 1 ? "the same at its checkpoint" : `the same at all ${grouped(counts.length)} checkpoints`) : wrong ? `not the same at checkpoint ${wrong.number} of ${counts.length}, at ${grouped(wrong.count)}: ${wrong.part}` : line);
 }
 
 /** Finds where one parts from the model, within some seconds.
@@ -168,7 +172,7 @@ function partingText({ at, lines, where }, areSeveral) {
  * @param {number} turn */
 async function judgeLesson({ exported, cells }, turn) {
   const project = exported?.project, lesson = board.model?.exported?.project?.lesson ?? project?.lesson, { worker } = board;
-  if (!project || !lesson || !worker) return cells[5].replaceChildren();
+  if (!project || !lesson || !worker) return cells[BY_LESSON].replaceChildren();
   const { file } = project, parts = project.ran ?? project.sources;
   let done = 0, first = "";
   for (const [at, { claim }] of lesson.steps.entries()) {
@@ -177,7 +181,7 @@ async function judgeLesson({ exported, cells }, turn) {
     if (!("refused" in found) && found.line && readLine(found.line).accepted) done++;
     else first ||= `; step ${at + 1}: ${"refused" in found ? found.refused : found.line ?? many(found.number, "problem")}`;
   }
-  cells[5].replaceChildren(`${done} of ${many(lesson.steps.length, "step")}${first}`);
+  cells[BY_LESSON].replaceChildren(`${done} of ${many(lesson.steps.length, "step")}${first}`);
 }
 
 /** Opens one of them.
