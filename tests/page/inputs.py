@@ -144,7 +144,7 @@ def compose_text(desk: Desk) -> None:
     page.answer("el('screen').editContext = context")
     expect("what was sent", page.answer(SENT), "\\e9\\fc\\df")
     page.press("ArrowUp")
-    desk.expect_notice("an arrow", "An arrow has no character, so it is dropped: choose keys as PS/2 codes among the devices.")
+    desk.expect_notice("an arrow", "Arrow keys need PS/2 mode: choose keys as PS/2 codes among the devices.")
     page.answer("el('notice').click()")
     desk.click("keyboard")
     page.insert("k")

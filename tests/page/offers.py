@@ -281,7 +281,7 @@ def drop_files(desk: Desk) -> None:
       dispatchEvent(new DragEvent("drop", {{ dataTransfer: data, cancelable: true }}));
     }})()"""
     )
-    desk.expect_notice("two files", r"Of 2 files that came together the first one is opened: first\.json\.")
+    desk.expect_notice("two files", r"Opened the first of 2 files: first\.json\.")
     expect("what is open", page.answer(shown("name")), "first")
     desk.choose("empty.bin", b"")
     desk.expect_refused("empty.bin", "an empty file has nothing to open")

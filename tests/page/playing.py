@@ -86,7 +86,7 @@ def go_on_at_key(desk: Desk) -> None:
     press_button(desk, "begin-at")
     press_button(desk, "take-here")
     page.wait(f"{WORD} === 'PAUSED' && galluspa.count() === 0")
-    expect("what is said of it", page.answer(MODE), "draw PAUSED The machine goes on at the first key.")
+    expect("what is said of it", page.answer(MODE), "draw PAUSED Press a key to resume.")
     page.press("z")
     page.wait(f"{WORD} === 'LIVE' && {SENT} === 'z'")
     press_button(desk, "run")

@@ -163,7 +163,7 @@ def press_search_keys(desk: Desk) -> None:
     page.press("b")
     expect("no breakpoint", page.answer("breaks.size"), 0)
     page.press("w")
-    desk.expect_notice("a watch of nothing", "Select bytes of memory first: they are watched.")
+    desk.expect_notice("a watch of nothing", "Select the bytes to watch.")
     page.press("/")
     expect("where / goes", page.answer("document.activeElement.id"), "g-search-kind")
 

@@ -391,7 +391,7 @@ def record_devices(desk: Desk) -> None:
     page.wait("galluspa.frame().on && galluspa.count() > 1000000")
     desk.click("save-session")
     desk.expect_notice(
-        "a session with devices", "the initial state has timer other than 0, which a session cannot say: save the recording"
+        "a session with devices", "the initial state has timer other than 0, which a session cannot set: save the recording"
     )
     recording = desk.save("late", "the recording that begins with devices")
     expect("its first timer", galluspa.formats.recording.read(recording).checkpoints[0].timer, 7)

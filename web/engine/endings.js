@@ -1,5 +1,5 @@
 // @ts-check
-/* Finds how many instructions a run has before it stops, or goes round in a loop for ever, as tools/galluspa/analysis/endings.py does. */
+/* Finds how many instructions a run has before it stops or enters an endless loop, as tools/galluspa/analysis/endings.py does. */
 import { ends, stops } from "../../tools/galluspa/formats/assembler.json";
 import { copied, Pace } from "./emulator.js";
 import { mistake } from "../assembler/language.js";

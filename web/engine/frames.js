@@ -166,7 +166,7 @@ class Row {
     this.width = width;
   }
 
-  /** Adds a call that was open from a count on and before another.
+  /** Adds a call that was open in [from, to).
    * @param {number} begin
    * @param {number} end
    * @param {number} entry */

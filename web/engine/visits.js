@@ -34,7 +34,7 @@ export class Visits {
     this.errand.forget();
   }
 
-  /** Returns how often the machine executed each word from a count on and before another. A newer request ends this one.
+  /** Returns how often the machine executed each word in [from, to). A newer request ends this one.
    * @param {Requests["visits"][0]} given
    * @returns {Promise<Visited | null>} */
   visits(given) {

@@ -184,7 +184,7 @@ const UNSAID = /** @type {const} */ (["stop", "timer", "switches", "LEDs", "mous
  * @param {Session} session */
 export function writeSession({ state, words, inputs, checkpoints }) {
   const unsaid = UNSAID.filter((name) => field(state, AT[name]));
-  if (unsaid.length) throw new Refused(`the initial state has ${unsaid.join(", ")} other than 0, which a session cannot say: save the recording`);
+  if (unsaid.length) throw new Refused(`the initial state has ${unsaid.join(", ")} other than 0, which a session cannot set: save the recording`);
   const R = REGISTERS.map((_, at) => field(state, AT.R + 4 * at));
   const start = { R, ...Object.fromEntries(SAID.map((name) => [name, field(state, AT[name])])) };
   return [

@@ -49,7 +49,7 @@ export class Past {
     this.helper.worker.postMessage({ ask: own, port: port2 }, [port2]);
   }
 
-  /** Starts the workers that search, as many as there are processors besides those that the page needs. */
+  /** Starts the workers that search, the number of CPUs less those that the page needs. */
   startSearchers() {
     const size = Math.max(1, Math.min(MOST_SEARCHERS, (navigator.hardwareConcurrency || 1) - OTHER_THREADS));
     const failed = this.searchPool.find(({ broken }) => broken);
@@ -155,7 +155,7 @@ export class Past {
     return this.ask(ask, given);
   }
 
-  /** Finds the first count from one on and before another at which a condition holds, or the last one. What the past says of it between
+  /** Finds the first count in [from, to) at which a condition holds, or the last one. What the past says of it between
    * has the number of the request.
    * @param {Requests["find"][0]} wanted */
   find({ from = 0, to, last = false, conditions, request }) {
@@ -248,7 +248,7 @@ export class Past {
     return this.ask("frames", given);
   }
 
-  /** Returns how many instructions the machine did in each procedure from a count on and before another.
+  /** Returns how many instructions the machine did in each procedure in [from, to).
    * @param {number} from
    * @param {number} to */
   profile(from, to) {

@@ -122,7 +122,7 @@ function memoryKey(event) {
 // Watching
 
 export function watchSelected() {
-  if (!selected) return notice("Select bytes of memory first: they are watched.");
+  if (!selected) return notice("Select the bytes to watch.");
   const { first, end } = selected, others = watches.filter((one) => one.first !== first || one.end !== end);
   if (others.length >= MOST_BREAKS) return notice(`There are ${MOST_BREAKS} watches at most.`);
   setWatches(others.length < watches.length ? others : [...watches, { first, end }]);

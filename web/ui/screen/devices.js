@@ -85,7 +85,7 @@ function arrowPressed(event) {
   event.preventDefault();
   if (!isRunning()) return;
   if (isSnake()) sendCodes([ARROWS[event.key].charCodeAt(0)]);
-  else notice("An arrow has no character, so it is dropped: choose keys as PS/2 codes among the devices.");
+  else notice("Arrow keys need PS/2 mode: choose keys as PS/2 codes among the devices.");
 }
 
 /** Says so where the browser composes no characters on the screen. */

@@ -248,7 +248,7 @@ async function runProgram({ program, sources, problems }, session, goal = null) 
 export async function runAgain() {
   const found = await programToRun(), before = runningProgram();
   if (!found) return;
-  if (!before) return notice("There is no run of this source yet, whose inputs it could have: Run is first.");
+  if (!before) return notice("Run this source once first.");
   const { inputs, count } = await app.live.ask("inputs"), session = sessionWith(found.program.session, inputs);
   const goal = inputs.length ? inputs[inputs.length - 1][0] + 1 : null, first = { ...before, session: sessionWith(before.session, inputs) };
   if ((await runProgram(found, session, goal)) === null) return;

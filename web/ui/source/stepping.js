@@ -80,7 +80,7 @@ async function pauses() {
  * @param {boolean} isBack */
 export async function stepOver(isBack) {
   if (await pauses()) return;
-  const at = shownCount(), pc = shownCounter(), why = "What it calls has not returned by now.";
+  const at = shownCount(), pc = shownCounter(), why = "The call has not returned yet.";
   if (isBack) return moveCursor((at && (isStackless() ? await wordBefore(at, pc - 1) : await callOver(at))) ?? at - 1);
   if (isAhead() || !isCallWord(await wordHere(at, pc))) return stepInto(false);
   if (isStackless()) return overWord(at, pc + 1, why);
@@ -120,7 +120,7 @@ export async function stepOut(isBack) {
   if (!now) return;
   if (!open) return notice("No call is open here.");
   if (isBack) return moveCursor(callAt(now.calls, open - 1).count);
-  if (isPast()) return lookAtEnd(at, open, "It has not returned by now.");
+  if (isPast()) return lookAtEnd(at, open, "It has not returned yet.");
   await runToReturn({ calls: now.calls, open });
 }
 

@@ -185,7 +185,7 @@ function modeOf({ state, on, isReplay, ahead, full, isAtLastCount }) {
   if (stop) return ["STOPPED", `${stopText(state)}. The machine does nothing more.${never}`];
   if (isAtLastCount) return ["LIMIT REACHED", `at ${grouped(countOf(state))}: no count comes after this one, so the machine does nothing more.${never}`];
   if (on) return ["LIVE", "What you type, click and send is recorded."];
-  return ["PAUSED", isToGoOn ? "The machine goes on at the first key." : "Keys and the mouse go to the machine while it runs."];
+  return ["PAUSED", isToGoOn ? "Press a key to resume." : "Keys and the mouse go to the machine while it runs."];
 }
 
 offer({ moveCursor, backToNow });
