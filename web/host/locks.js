@@ -5,8 +5,8 @@
 /** How to release a lock, and whether the browser holds it: no other page can write the item meanwhile.
  * @typedef {{ release: () => void, isLocked: boolean }} Held */
 
-// How long other pages have to say that they have an item, in milliseconds.
-const ANSWER_MS = 150;
+// How long a page that noted that it has an item is waited for, in milliseconds: it may be hidden, or do much else. One that was ended does not answer.
+const ANSWER_MS = 3000;
 // Where pages ask each other: the names of the locks that this page has, and the channel on which it hears of others.
 /** @type {Set<string>} */
 const own = new Set();
@@ -32,16 +32,16 @@ function lockedByBrowser(name) {
   });
 }
 
-/** Asks the other pages whether one of them has the lock. Of two that ask at once neither gets it. A page that the browser has frozen does not answer, so each write of
- * a recording also looks at who wrote it last.
+/** Asks the other pages whether one of them has the lock, if one noted so. A page that the browser has frozen does not answer, so each write of a recording also looks at
+ * who wrote it last.
  * @param {string} name
  * @returns {Promise<Held | null>} */
 async function lockedByAsking(name) {
-  if (own.has(name)) return null;
+  if (own.has(name) || (isNoted(name) && (await isHadByAnother(name)))) return null;
+  opened();
   own.add(name);
-  if (!(await isHadByAnother(name))) return { release: () => void own.delete(name), isLocked: false };
-  own.delete(name);
-  return null;
+  note(name, true);
+  return { release: () => (own.delete(name), note(name, false)), isLocked: false };
 }
 
 /** @param {string} name
@@ -62,10 +62,35 @@ function isHadByAnother(name) {
   });
 }
 
-/** Returns the channel, on which this page says from now on what it has. */
+/** Returns the channel, on which this page says from now on what it has. What it noted is taken back as it is left. */
 function opened() {
   if (channel) return channel;
   const pages = (channel = new BroadcastChannel("galluspa"));
   pages.addEventListener("message", ({ data }) => own.has(data.asked) && pages.postMessage({ had: data.asked }));
+  addEventListener("pagehide", () => own.forEach((name) => note(name, false)));
+  addEventListener("pageshow", () => own.forEach((name) => note(name, true)));
   return pages;
+}
+
+// Where the browser denies its storage, nothing is kept that two pages could have.
+
+/** @param {string} name */
+function isNoted(name) {
+  try {
+    return localStorage.getItem(name) !== null;
+  } catch {
+    return false;
+  }
+}
+
+/** Notes that this page has a lock, or takes that back.
+ * @param {string} name
+ * @param {boolean} isHad */
+function note(name, isHad) {
+  try {
+    if (isHad) localStorage.setItem(name, "open");
+    else localStorage.removeItem(name);
+  } catch {
+    // Then nobody is asked.
+  }
 }
