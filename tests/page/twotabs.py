@@ -184,10 +184,10 @@ def copy_source_by_asking(folder: Path) -> None:
         one.type("a")
         one.wait_until_kept()
         with another(one, "three", NO_LOCKS) as two:
-            before = two.page.answer(f"{HEADS}.length")
+            two.page.wait(f"{HEADS}.length === 1")
             open_kept(two, "Delete")
             two.page.wait(f"{NOTICE} === '{OPEN_THERE}'")
-            expect("what is kept", two.page.answer(f"{HEADS}.length"), before)
+            expect("what is kept", two.page.answer(f"{HEADS}.length"), 1)
             for who in (one, two):
                 who.expect_sound()
     print("two tabs: without locks they ask each other, and a source that both open is a copy in the second one, too")
