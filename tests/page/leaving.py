@@ -6,6 +6,7 @@ Its tasks share the helpers and the programs at its head, so it is one module of
 
 import json
 import re
+import time
 from collections.abc import Mapping
 from pathlib import Path
 
@@ -36,6 +37,11 @@ withKept("readwrite", (store) => {
 NUMBER = "document.getElementById('g-kept-number').textContent"
 # The list of what is kept takes half a second to be read.
 SLOW_LIST = "(() => { const read = sourceSummaries; sourceSummaries = (listed) => new Promise((done) => setTimeout(done, 500)).then(() => read(listed)); })()"
+
+# The source of a run takes two seconds to be read.
+SLOW_SOURCE = "(() => { const read = keptNow; keptNow = (id) => new Promise((done) => setTimeout(done, 2000)).then(() => read(id)); })()"
+# What is looked at, as the browser keeps it: how many breakpoints, watches and notes, and the cursor.
+LOOKED_AT = "(({ breaks, watches, notes, cursor }) => [breaks.length, watches.length, notes.length, cursor])(galluspa.work().about.desk)"
 
 
 def begin_program(who: Person) -> None:
@@ -290,6 +296,45 @@ def continue_last(folder: Path) -> None:
     print("left: Continue goes on with what was worked on last: its source, its breakpoints, its cursor")
 
 
+def leave_while_resuming(folder: Path) -> None:
+    """What was looked at is kept though the page is loaded anew while a run is resumed whose source takes long to be read."""
+    with begun(folder) as who:
+        who.choose("draws.asm", DRAWS.encode())
+        who.page.wait(f"{TEXT}.includes('Draws what is typed')")
+        who.press_button("#g-source-run")
+        who.page.wait(f"{WORD} === 'LIVE' && document.activeElement.id === 'g-screen'")
+        who.page.press("k")
+        who.page.wait("document.getElementById('g-status').textContent.includes(', 1 input')")
+        who.run_or_pause()
+        who.press_button('#g-source [data-line="4"]')
+        who.press_button("#g-tab-memory")
+        who.press_button("#g-memory span[data-at]")
+        who.press_button("#g-watch")
+        who.press_button("#g-tab-log")
+        who.press_button("#g-note")
+        who.page.insert("here")
+        who.page.press("Enter")
+        for _ in range(3):
+            who.press_button("#g-back")
+        who.page.wait(f"{WORD}.startsWith('VIEWING ')")
+        at = who.count()
+        who.wait_until_kept()
+        who.page.wait(f"({LOOKED_AT}).join() === '1,1,1,{at}'")
+        for number in range(3):
+            who.reload()
+            if number < 2:
+                who.page.answer(SLOW_SOURCE)
+            continue_with(who, "draws")
+            who.page.wait(f"{WORD} === 'PAUSED'" if number < 2 else f"{WORD}.startsWith('VIEWING ') && {TEXT}.includes('Draws')")
+            # The first time it is left at once, and then after what is looked at would be kept.
+            time.sleep(1 if number == 1 else 0)
+        expect("the count that is looked at", who.count(), at)
+        expect("what else is", who.page.answer("[breaks.size, watches.length, ...pins.values()]"), [1, 1, "here"])
+        who.page.wait(f"({LOOKED_AT}).join() === '1,1,1,{at}'")
+        who.expect_sound()
+    print("left: what was looked at is kept though the page is loaded anew while a run is resumed")
+
+
 def show_part(who: Person, file: str) -> None:
     """Chooses a source of the program by an arrow key."""
     who.page.answer("document.getElementById('g-source-part').focus()")
@@ -438,6 +483,7 @@ TASKS = (
     list_sources,
     keep_beside_many,
     continue_last,
+    leave_while_resuming,
     keep_several,
     fill_with_several,
 )

@@ -184,7 +184,7 @@ function newId(work) {
  * @param {Work} work
  * @returns {Labels} */
 export function labelsOf(work) {
-  return { ...work.labels, desk: { breaks: [...breaks], cursor: cursor.at, source: work.ran?.id ?? "", watches, notes: [...pins] } };
+  return { ...work.labels, desk: { breaks: [...breaks], cursor: cursor.at ?? work.unshown.cursor ?? null, source: work.ran?.id ?? "", watches, notes: [...pins] } };
 }
 
 /** Keeps what is looked at soon: it may have changed. */

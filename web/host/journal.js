@@ -73,6 +73,9 @@ export class Work {
   /** What the browser keeps of it in a small record, if it keeps all of it.
    * @type {KeptAbout | null} */
   about = null;
+  /** What was kept beside it that is still to be shown: the names, and the count that was looked at. Until then it stays kept.
+   * @type {{ symbols?: SymbolFile, cursor?: number | null }} */
+  unshown = {};
 
   /**
    * @param {string} name
@@ -124,7 +127,7 @@ export class Work {
 
   /** Returns what the browser keeps beside the machine. */
   get labels() {
-    const { name, sent, family, number, parent, ran, isPinned: pinned } = this, named = symbolFile();
+    const { name, sent, family, number, parent, ran, isPinned: pinned } = this, named = symbolFile() ?? this.unshown.symbols;
     return { name, sent, ...(family === undefined ? {} : { family, number, parent }), ...(named ? { symbols: named } : {}), ...(ran ? { ran } : {}), ...(pinned ? { pinned } : {}) };
   }
 

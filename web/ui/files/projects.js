@@ -2,7 +2,7 @@
 /* Opens projects that were exported: the run at its last count or at the cursor, its source, names, breakpoints, watches, notes, and its branches. It is not kept in
  * this browser before something is done in it. */
 import { app, branches, NO_BRANCHES } from "../../host/app.js";
-import { restore } from "./savedlist.js";
+import { lookAgain, restore } from "./savedlist.js";
 import { offer } from "../../host/commands.js";
 import { notice } from "../../host/elements.js";
 import { mayLeave, openRecording, refusing, showOpened } from "./opening.js";
@@ -110,7 +110,8 @@ async function branchesOf({ name, branches: given }) {
 /** Opens what a project has beside its run.
  * @param {Project} project */
 async function openParts(project) {
-  const { name, sources, file, ran, symbols, lesson } = project;
+  const { name, sources, file, ran, symbols, lesson } = project, { work } = app;
+  restore(project);
   if (sources.length) {
     await beginSource();
     nameProject(`${name}.asm`);
@@ -120,7 +121,7 @@ async function openParts(project) {
     if (lesson) offerLesson(lesson);
   }
   if (symbols) await openSymbols(symbols.from, symbols.bytes);
-  await restore({ ...project, source: "" });
+  await lookAgain(work);
 }
 
 offer({ openPage });

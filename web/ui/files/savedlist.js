@@ -163,31 +163,43 @@ function unreadable(error) {
  * @param {number} id */
 export async function resume(id) {
   if (!(await mayLeave())) return;
-  const { ran, desk } = await resumed(new Work(""), id, async ({ family }) => (family === undefined ? NO_BRANCHES : familyOf(family, id)));
-  if (ran) await resumeProgram(ran);
-  if (desk) await restore(desk);
+  const work = new Work(""), { ran } = await resumed(work, id, async ({ family }) => (family === undefined ? NO_BRANCHES : familyOf(family, id)));
+  try {
+    if (ran) await resumeProgram(ran);
+  } finally {
+    await lookAgain(work);
+  }
 }
 
-// Whether what was kept is played back up to where it was, in which the machine stops at no breakpoint; and what is restored after that.
-const playback = { isOn: false, waiting: /** @type {{ generation: number, desk: DeskState } | null} */ (null) };
+// Whether what was kept is played back up to where it was, in which the machine stops at no breakpoint; and the work whose count is looked at after that.
+const playback = { isOn: false, waiting: /** @type {Work | null} */ (null) };
 
-/** Restores what was looked at, once the machine is where it was.
- * @param {DeskState} desk */
-export async function restore(desk) {
-  playback.waiting = { generation: app.work.generation, desk };
-  if (!playback.isOn) await restoreWaiting();
-}
-
-/** Restores what was looked at. If the user has stopped the machine on its way, or looks at another count, the cursor stays there. */
-async function restoreWaiting() {
-  const { waiting } = playback, { latest, work } = app;
-  playback.waiting = null;
-  if (!waiting || waiting.generation !== work.generation) return;
-  const { breaks, watches = [], notes, cursor } = waiting.desk;
+/** Shows what was looked at in the work that is open: the breakpoints, watches and notes at once, so that nothing is lost if the page ends before the machine is
+ * where it was; the count, once `lookAgain` is called.
+ * @param {Omit<DeskState, "source">} desk */
+export function restore({ breaks, watches = [], notes, cursor }) {
+  app.work.unshown.cursor = cursor;
   setBreaks(breaks);
   setWatches(watches);
   setPins(notes);
-  if (cursor !== null && cursor < nowCount() && !latest?.isReplay && !isPast()) await moveCursor(cursor);
+}
+
+/** Looks at the count that was looked at in a work, once the machine is where it was.
+ * @param {Work} work */
+export async function lookAgain(work) {
+  playback.waiting = work;
+  if (!playback.isOn) await lookAtWaiting();
+}
+
+/** Looks at the count that waits. If the user has stopped the machine on its way, runs it on, or looks at another count, the cursor stays there. */
+async function lookAtWaiting() {
+  const { waiting } = playback, { latest, work } = app;
+  playback.waiting = null;
+  if (!waiting) return;
+  const { cursor = null } = waiting.unshown;
+  delete waiting.unshown.cursor;
+  const isThere = waiting === work && !latest?.isReplay && !latest?.on && !isPast();
+  if (isThere && cursor !== null && cursor < nowCount()) await moveCursor(cursor);
 }
 
 /** Plays back what was kept, up to a count.
@@ -203,7 +215,7 @@ export async function endPlayback() {
   if (!playback.isOn) return;
   playback.isOn = false;
   sendBreaks();
-  await restoreWaiting();
+  await lookAtWaiting();
 }
 
 /** Resumes an item. If another page has it open, this is a copy. `branchesOf` returns the branches beside it. Returns what was kept
@@ -214,17 +226,19 @@ export async function endPlayback() {
  * @returns {Promise<Labels>} */
 export async function resumed(work, id, branchesOf) {
   // A branch that is in this page only has no item yet.
-  const isOnlyHere = work.left !== null && work.id === null, isFree = isOnlyHere || work.isLocked || (await work.take(id));
+  const isOnlyHere = work.left !== null && work.id === null, isBranch = branches.list.includes(work), isFree = isOnlyHere || work.isLocked || (await work.take(id));
   try {
     const { kept, about } = work.left ? { kept: /** @type {Kept} */ ({ ...work.labels, ...work.left }), about: null } : await readItem(id);
     const others = await branchesOf(kept), answer = await app.live.ask("resume", { kept });
     const { family, number = 1, parent = 0, until = kept.count, by = work.by, ran, pinned: isPinned = false } = kept, { generation, fork, program } = answer;
-    Object.assign(work, { name: nameIn(kept), generation, fork, program, family, number, parent, by, ran, isPinned, about, journals: [], left: null });
+    Object.assign(work, { name: nameIn(kept), generation, fork, program, family, number, parent, by, ran, isPinned, about, journals: [], left: null, unshown: { symbols: kept.symbols } });
     // Without its state a machine is at its last checkpoint, and what it sent later comes again.
     Object.assign(work, { sent: kept.live ? kept.sent : kept.first ? "" : sentIn(kept.recording), isStored: isFree && !isOnlyHere && until === kept.count && Boolean(kept.live), kept: "" });
     if (!isFree) Object.assign(work, { id: null, by: null, about: null });
     showOpened(answer, work, others);
-    attempt(() => resumeNames(kept.symbols));
+    // What is looked at in a branch that one returns to is what was looked at in the one before.
+    if (kept.desk && !isBranch) restore(kept.desk);
+    attempt(() => resumeNames(kept.symbols)).then(() => delete work.unshown.symbols);
     if (kept.first) notice("An earlier page kept this session without its recording: Run plays it back and records it.");
     else if (app.latest?.isReplay) await playBack(until);
     if (!isFree) notice("This recording is open in another page: what you do here is kept as a copy.");
