@@ -5,7 +5,7 @@ import time
 
 from tests.tools import browser
 import galluspa.formats.recording
-from tests.page.desk import SENT, SHIFT, Desk, expect, fail
+from tests.page.desk import NOTICE, SENT, SHIFT, Desk, expect, fail
 from tests.tools.samples import EXAMPLES, JUMP, record, session
 from tests.page.kept import DRAW
 
@@ -27,6 +27,13 @@ COUNT_POSTED = """
     return this.postMessage(...given);
   };
   return galluspa.live("inputNear", { at: 0, isBefore: true });
+})()
+"""
+# The page hears of the live machine half a second later.
+LATE = """
+(() => {
+  const { worker } = app.live, hear = worker.onmessage;
+  worker.onmessage = (event) => setTimeout(() => hear.call(worker, event), 500);
 })()
 """
 CLEAN = "screens.dots && !screens.dots.some(Boolean)"
@@ -116,6 +123,21 @@ def send_lines(desk: Desk) -> None:
     expect("the text in a replay", page.answer("el('serial').value"), "later")
     page.answer("el('serial').value = ''")
     print("serial line: pasted lines, 400 bytes in few frames; text and keys that cannot be sent are said to be")
+
+
+def type_at_once(desk: Desk) -> None:
+    """Keys that are typed right after *Run* go to the machine, though it has not answered yet."""
+    page = desk.page
+    desk.draw()
+    desk.pause()
+    page.answer(LATE)
+    desk.click_on("el('run')")
+    page.press("a")
+    page.press("b")
+    page.wait(f"{SENT} === 'ab'")
+    expect("what the page says", page.answer(NOTICE), "")
+    desk.ready()
+    print("keys: those that are typed right after Run go to the machine")
 
 
 def compose_text(desk: Desk) -> None:
@@ -261,4 +283,4 @@ def json_of(name: str, **changes: object) -> bytes:
     return json.dumps({**json.loads((EXAMPLES / name).read_text()), **changes}).encode()
 
 
-TASKS = (click_fast, stroke, send_lines, compose_text, go_to_checkpoints, wait_quietly)
+TASKS = (click_fast, stroke, send_lines, type_at_once, compose_text, go_to_checkpoints, wait_quietly)

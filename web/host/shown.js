@@ -95,6 +95,14 @@ export function setToGoOn(is) {
   isToGoOn = is;
 }
 
+// Whether the machine was just told to run: what is typed from then on goes to it, though it has not answered yet.
+export let isStarting = false;
+
+/** @param {boolean} is */
+export function setStarting(is) {
+  isStarting = is;
+}
+
 /** What is played, or null.
  * @type {{} | null} */
 export let playing = null;

@@ -7,7 +7,7 @@ import { commands } from "../../host/commands.js";
 import { attempt, el, notice, on, set, write } from "../../host/elements.js";
 import { ARROWS, isSnake } from "./game.js";
 import { dotAt } from "./screen.js";
-import { inputRefusalInPast, isPast, isToGoOn, shownState } from "../../host/shown.js";
+import { inputRefusalInPast, isPast, isStarting, isToGoOn, shownState } from "../../host/shown.js";
 import { AT, field, last, MOUSE, SWITCHES } from "../../formats/states.js";
 import { INPUT_LIMIT, SERIAL_LIMIT } from "../../formats/limits.js";
 import { grouped } from "../../formats/texts.js";
@@ -76,7 +76,7 @@ export function pressed(event) {
 /** Whether a key is an arrow that goes to a machine that runs, which has no character for it.
  * @param {KeyboardEvent} event */
 function isArrow({ key, ctrlKey, metaKey, altKey }) {
-  return key in ARROWS && !isPs2() && !ctrlKey && !metaKey && !altKey && (app.latest?.on || isToGoOn);
+  return key in ARROWS && !isPs2() && !ctrlKey && !metaKey && !altKey && (app.latest?.on || isStarting || isToGoOn);
 }
 
 /** Sends an arrow as the key that Snake has for it; else says that it is dropped.
@@ -99,7 +99,7 @@ export function isRunning() {
   const { on, inputRefusal } = app.latest;
   if (isPast()) return notice(`${inputRefusalInPast()}.`), false;
   if (isToGoOn && !on && !inputRefusal) attempt(() => commands.setRun(true));
-  else if (!on || inputRefusal) return notice(`${inputRefusal ?? "The machine is paused: keys and the mouse go to it while it runs"}.`), false;
+  else if (!(on || isStarting) || inputRefusal) return notice(`${inputRefusal ?? "The machine is paused: keys and the mouse go to it while it runs"}.`), false;
   return true;
 }
 

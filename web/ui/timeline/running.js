@@ -7,7 +7,7 @@ import { offer } from "../../host/commands.js";
 import { catchUp } from "../screen/devices.js";
 import { el, notice } from "../../host/elements.js";
 import { publish } from "../../host/events.js";
-import { everySeconds, isFast, nowCount, setGoal, setToGoOn } from "../../host/shown.js";
+import { everySeconds, isFast, nowCount, setGoal, setStarting, setToGoOn } from "../../host/shown.js";
 
 /** Runs or pauses the machine. A run goes up to a goal, if there is one, and may go on live from there.
  * @param {boolean} isOn
@@ -17,10 +17,14 @@ export async function setRun(isOn, how = {}) {
   setToGoOn(false);
   publish("running");
   setGoal(-1);
-  await app.live.ask("setRun", { on: isOn, fast: isFast(), seconds: everySeconds(), ...how });
-  if (!isOn) return;
-  el("screen").focus({ preventScroll: true });
-  catchUp();
+  setStarting(isOn);
+  if (isOn) el("screen").focus({ preventScroll: true });
+  try {
+    await app.live.ask("setRun", { on: isOn, fast: isFast(), seconds: everySeconds(), ...how });
+  } finally {
+    setStarting(false);
+  }
+  if (isOn) catchUp();
 }
 
 /** Makes a checkpoint, or says why there is none. */
