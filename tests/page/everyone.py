@@ -2,7 +2,7 @@
 
 import re
 
-from tests.page.desk import NOTICE, SENT, Desk, expect, fail
+from tests.page.desk import NOTICE, SENT, SHIFT, Desk, expect, fail
 from tests.page.offers import type_goto
 from tests.page.projects import begin_empty
 from tests.page.source import open_source
@@ -24,7 +24,9 @@ STOP = """
   if (style.outlineStyle === "none" || parseFloat(style.outlineWidth) < 2) return [name, "nothing shows the focus"];
   if (bottom <= 0 || top >= innerHeight || right <= 0 || left >= innerWidth) return [name, "it is not in the window"];
   const x = Math.min(innerWidth - 1, Math.max(0, left + width / 2)), y = Math.min(innerHeight - 1, Math.max(0, Math.max(top, 0) + Math.min(height, innerHeight) / 2));
-  return seen.contains(document.elementFromPoint(x, y)) || document.elementFromPoint(x, y)?.contains(seen) ? [name, ""] : [name, "something lies over it"];
+  // Of what is higher than half of the window a part is in sight.
+  const lines = height > innerHeight / 2 ? [y, Math.max(0, top) + 4, Math.min(innerHeight, bottom) - 4] : [y], met = lines.map((line) => document.elementFromPoint(x, line));
+  return met.some((one) => seen.contains(one) || one?.contains(seen)) ? [name, ""] : [name, "something lies over it"];
 })()
 """
 # The texts of the page that are in sight and have less contrast to what is behind them than 4.5 : 1, or 3 : 1 where they are large.
@@ -199,14 +201,15 @@ def reserve_places(desk: Desk) -> None:
     )
 
 
-def stops_of(desk: Desk, what: str) -> list[str]:
-    """Goes through the whole page by Tab, from its first control on, and returns the names of its stops. Each is in sight, and shows that it has the focus."""
+def stops_of(desk: Desk, what: str, is_back: bool = False) -> list[str]:
+    """Goes through the whole page by Tab, from its first control on, or back by Shift+Tab from its last one, and returns the names of its stops. Each is in sight,
+    and shows that it has the focus."""
     page, names = desk.page, list[str]()
     page.answer(
         "document.body.tabIndex = -1; document.body.focus(); document.body.removeAttribute('tabindex'); window.scrollTo(0, 0)"
     )
     for _ in range(200):
-        page.press("Tab")
+        page.press("Tab", modifiers=SHIFT if is_back else 0)
         stop = page.answer(STOP)
         if stop is None or (len(names) > 2 and stop[0] == names[0]):
             return names
@@ -234,7 +237,15 @@ def walk_stops(desk: Desk) -> None:
     for key, wanted in (("ArrowRight", "source"), ("End", "log"), ("ArrowRight", "state"), ("ArrowLeft", "log"), ("Home", "state")):
         page.press(key)
         expect(f"the tab after {key}", page.answer(f"[document.activeElement.id, isTab({wanted!r})]"), [f"g-tab-{wanted}", True])
-    print(f"Tab: {numbers[0]} stops of an empty page, {numbers[1:]} with a recording; each is seen, and the tabs are one")
+    for size in ((800, 600), (400, 800), (683, 384)):
+        page.resize(*size)
+        for name in TABS:
+            page.answer(f"showTab({name!r})")
+            page.answer(SETTLED)
+            for is_back in (False, True):
+                stops_of(desk, f"the tab {name} at {size}{' back' if is_back else ''}", is_back)
+    page.resize(1400, 900)
+    print(f"Tab: {numbers[0]} stops of an empty page, {numbers[1:]} with a recording; each is seen, also in small windows and back, and the tabs are one")
 
 
 def tell_parts(desk: Desk) -> None:

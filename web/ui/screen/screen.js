@@ -88,7 +88,7 @@ export function fitScreen() {
   const whole = Math.floor(most * devicePixelRatio / DOTS_WIDE) * DOTS_WIDE / devicePixelRatio, isWhole = whole > WHOLE_SHARE * most;
   const { style } = /** @type {HTMLElement} */ (document.getElementById("galluspa"));
   style.setProperty("--screen", `${isWhole ? whole : most}px`);
-  style.setProperty("--stay", `${stay}px`);
+  document.documentElement.style.setProperty("--stay", `${stay}px`);
   el("screen").style.imageRendering = isWhole ? "pixelated" : "auto";
 }
 
