@@ -398,8 +398,9 @@ interface Moment {
   effects?: [number, string][] | null;
 }
 
-/** What the live machine needs to resume at a count. */
+/** What the live machine of a number needs to resume at a count. */
 interface Start extends Memory {
+  generation: number;
   at: number;
   sent: number;
 }
@@ -708,12 +709,12 @@ interface Requests {
   openRecording: [{ bytes: Bytes; checkpoint: number }, Opened];
   openSession: [{ bytes: Bytes; isAlwaysKept?: boolean }, Opened];
   openImage: [{ image: Bytes; address: string; registers: string }, Opened];
-  resume: [{ kept: Kept | (Labels & Whole); isOfFile?: boolean }, Opened];
+  resume: [{ kept: Kept | (Labels & Whole); isOfFile?: boolean; isKeptOn?: boolean }, Opened];
   setRun: [{ on: boolean; fast?: boolean; goal?: number | null; seconds?: number; then?: { fast: boolean } | null; returns?: Returning | null }, void];
   setPace: [{ fast: boolean; seconds: number }, void];
   step: [{}, void];
   toCheckpoint: [{ fast: boolean; seconds: number }, void];
-  takeOver: [Start | {}, { left: Whole | null; begun: Begun | null; fork: number }];
+  takeOver: [Start | {}, { left: Whole | null; begun: Begun | null; fork: number } | null];
   setBreaks: [{ conditions: Condition[] }, void];
   keepToo: [{}, void];
   change: [{ kind: number; changes: Change[] }, string | null];
@@ -725,7 +726,7 @@ interface Requests {
   claimedOutput: [{ number: number; of: number }, Bytes | null];
   session: [{}, Made];
   recording: [{}, Made];
-  recordingTo: [Start, Made];
+  recordingTo: [Start, Made | null];
   kept: [{}, (Whole & { fork: number }) | null];
   begun: [{}, Begun & { fork: number }];
   lanes: [{ from: number; to: number; columns: number; of: number }, Lanes | null];

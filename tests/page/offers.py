@@ -5,7 +5,7 @@ import json
 import re
 
 import galluspa.formats.recording
-from tests.page.desk import JUDGED, LINE, NOTICE, SENT, Desk, expect, fail, program, shown
+from tests.page.desk import JUDGED, LINE, NOTICE, OWN_JUDGED, SENT, Desk, expect, fail, program, shown
 from tests.page.stops import press_button
 from tests.page.timeline import EXACT, FACE, look_at, page_dots, program_dots, run_to_end
 from tests.tools.samples import EXAMPLES, JUMP, claim, encoded, page_of, record, rejoining
@@ -97,6 +97,14 @@ def save_in_past(desk: Desk) -> None:
         [["a", "b"], third],
     )
     expect("the program's line", program("check", text)[1], 0)
+    desk.start("keys.json", (EXAMPLES / "keys.json").read_bytes())
+    press_button(desk, "step")
+    look_at(desk, 4)
+    desk.clear()
+    press_button(desk, "save-recording")
+    desk.saved("keys-live.orsr")
+    page.wait(f"{OWN_JUDGED}")
+    expect("what is said ahead of a replay, of which nothing up to the cursor can be saved", page.answer(NOTICE), "")
     print("saved: all of it, which is said, and what is up to the cursor")
 
 

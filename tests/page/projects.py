@@ -10,6 +10,7 @@ from galluspa.commands.recording_of import recording_in
 from tests.page.desk import LONGEST_TASK_MS, NOTICE, REFUSED_LINE, SENT, Desk, expect, fail, program, shown
 from tests.page.source import DRAWS, open_source, run_source
 from tests.page.stops import press_button
+from tests.page.timeline import run_to_end
 from tests.tools.samples import EXAMPLES, rejoining
 
 ENTRIES = "[...el('kept-list').children].filter((it) => it.tagName === 'P').map((it) => it.textContent)"
@@ -226,6 +227,34 @@ def keep_noted(desk: Desk) -> None:
     print("projects: one that was opened from a file is kept once a note is pinned in it")
 
 
+def keep_without_inputs(desk: Desk) -> None:
+    """A run without inputs that was kept for its note is kept on once it is resumed: that the note is deleted, and a breakpoint."""
+    page = desk.page
+    begin_empty(desk)
+    run_to_end(desk, "watched.orsr", rejoining(1))
+    press_button(desk, "tab-log")
+    press_button(desk, "note")
+    page.insert("look here")
+    page.press("Enter")
+    page.wait("galluspa.work().about?.desk.notes.length === 1")
+    for notes, breaks in ((1, 0), (0, 1)):
+        desk.reload()
+        press_button(desk, "continue")
+        page.wait("galluspa.frame()?.hasOwn")
+        if notes:
+            press_button(desk, "tab-log")
+            desk.click_on("el('notes').querySelector('[aria-label]')")
+            press_button(desk, "tab-code")
+            press_button(desk, "code-at")
+            page.insert("0")
+            desk.click_on("el('code-form').querySelector('[value=break]')")
+            page.wait("galluspa.work().about.desk.notes.length === 0 && galluspa.work().about.desk.breaks.length === 1")
+        else:
+            expect("the notes and the breakpoints", page.answer("[pins.size, breaks.size]"), [notes, breaks])
+    begin_empty(desk)
+    print("projects: a run without inputs is kept on once it is resumed")
+
+
 def ask_noted(desk: Desk) -> None:
     """A note in a replay that is not over is not kept yet, which the page says; it asks before it is left or opens another machine."""
     page = desk.page
@@ -398,4 +427,4 @@ def teach(desk: Desk) -> None:
     print("projects: a lesson is written, exported, asked about and shown")
 
 
-TASKS = (fold_runs, list_hundred, export, keep_noted, ask_noted, refuse_hostile, open_false, teach)
+TASKS = (fold_runs, list_hundred, export, keep_noted, keep_without_inputs, ask_noted, refuse_hostile, open_false, teach)

@@ -69,10 +69,11 @@ export class Machine extends Playback {
 
   /** Resumes a kept recording, at the state that the machine had, or at its last checkpoint if that was not kept. What came later is
    * played back, up to `until`. Of a kept session all is played back, from its initial state. It is refused if the parts of what was kept
-   * do not fit together, and the machine stays as it was. The inputs are the user's, or those of a file.
+   * do not fit together, and the machine stays as it was. The inputs are the user's, or those of a file. One that the browser is to keep on is kept though it has
+   * no inputs: a note was pinned in it.
    * @param {Kept | (Labels & Whole & { first?: undefined })} kept
-   * @param {boolean} isOfFile */
-  resume({ recording, sentSince, live, inputs: bytes, first, marks = [], count, until = count, waiting, family, ran }, isOfFile = false) {
+   * @param {{ isOfFile?: boolean, isKeptOn?: boolean }} how */
+  resume({ recording, sentSince, live, inputs: bytes, first, marks = [], count, until = count, waiting, family, ran }, { isOfFile = false, isKeptOn = false } = {}) {
     const inputs = lawfulInputs(bytes);
     if (first) {
       this.tryState(first, 0);
@@ -86,7 +87,7 @@ export class Machine extends Playback {
     this.recorder.resume(recording, live ? sentSince : new Uint8Array());
     this.forgetRecording();
     const planned = [...new Set(marks)].filter((mark) => mark > from && mark <= until).sort((one, other) => one - other);
-    const given = until > from ? inputs.from(until) : 0, isAlwaysKept = family !== undefined || ran !== undefined;
+    const given = until > from ? inputs.from(until) : 0, isAlwaysKept = isKeptOn || family !== undefined || ran !== undefined;
     this.start({ ...begun, inputs, given, filed: isOfFile ? inputs.length : 0, next: inputs.from(from), planned, until, waiting, isAlwaysKept });
   }
 

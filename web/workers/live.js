@@ -75,8 +75,8 @@ export const LIVE = {
     return opened("image", () => machine.begin(session));
   },
   /** @param {Requests["resume"][0]} given */
-  resume({ kept, isOfFile }) {
-    return opened("session", () => machine.resume(kept, isOfFile));
+  resume({ kept, ...how }) {
+    return opened("session", () => machine.resume(kept, how));
   },
   setRun,
   setPace,
@@ -94,10 +94,12 @@ export const LIVE = {
     setRun({ on: true, fast, goal, seconds });
   },
   /** Ends a replay where it is; or goes on from a moment of the past, which `history` has. Returns the number of the new run, and what the
-   * browser is to keep of the one that was left.
+   * browser is to keep of the one that was left; or null if the replay is over already, or another machine was opened since that moment was asked for.
    * @param {Start | { at?: undefined }} given */
   takeOver(given) {
-    const { at } = given, left = at === undefined || machine.isKept ? null : machine.whole();
+    const { at } = given;
+    if (given.at === undefined ? !machine.isReplay : given.generation !== generation) return null;
+    const left = at === undefined || machine.isKept ? null : machine.whole();
     if (given.at === undefined) machine.takeOver();
     else {
       machine.goBack(given.at, given);
@@ -174,10 +176,11 @@ export const LIVE = {
   recording() {
     return made(machine.recorded().bytes);
   },
-  /** Returns the recording up to a moment of the past.
+  /** Returns the recording up to a moment of the past, or null if that is of a machine that is no longer open.
    * @param {Start} given
-   * @returns {Made} */
+   * @returns {Made | null} */
   recordingTo(given) {
+    if (given.generation !== generation) return null;
     return { bytes: machine.recordedTo(given), count: given.at, isWhole: true };
   },
   /** Returns what the browser keeps, or null if it keeps nothing. The page has heard of all inputs in it by then. */

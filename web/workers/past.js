@@ -352,7 +352,7 @@ export class History {
   /** Returns all that the live machine needs to go on from a count: state, words, and how many bytes were sent.
    * @param {Requests["moment"][0]} given */
   moment({ generation, at }) {
-    return this.reached({ generation, at }, (looker) => ({ at, ...copied(looker.at(looker.address)), sent: looker.sent }));
+    return this.reached({ generation, at }, (looker) => ({ at, generation: this.generation, ...copied(looker.at(looker.address)), sent: looker.sent }));
   }
 
   /** Does something with the machine at a count.

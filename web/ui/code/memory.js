@@ -63,6 +63,7 @@ function showMemoryAt(at) {
 }
 
 function memoryByField() {
+  if (!app.work.generation) return notice("There is no machine yet whose memory could be shown.");
   const at = memoryAddress(el("memory-at").value, shownState());
   notice();
   select(at, at);

@@ -229,7 +229,7 @@ export async function resumed(work, id, branchesOf) {
   const isOnlyHere = work.left !== null && work.id === null, isBranch = branches.list.includes(work), isFree = isOnlyHere || work.isLocked || (await work.take(id));
   try {
     const { kept, about } = work.left ? { kept: /** @type {Kept} */ ({ ...work.labels, ...work.left }), about: null } : await readItem(id);
-    const others = await branchesOf(kept), answer = await app.live.ask("resume", { kept });
+    const others = await branchesOf(kept), answer = await app.live.ask("resume", { kept, isKeptOn: isFree });
     const { family, number = 1, parent = 0, until = kept.count, by = work.by, ran, pinned: isPinned = false } = kept, { generation, fork, program } = answer;
     Object.assign(work, { name: nameIn(kept), generation, fork, program, family, number, parent, by, ran, isPinned, about, journals: [], left: null, unshown: { symbols: kept.symbols } });
     // Without its state a machine is at its last checkpoint, and what it sent later comes again.

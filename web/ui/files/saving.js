@@ -2,7 +2,7 @@
 /* Saves the session or the recording that was made so far. */
 import { app, savedName } from "../../host/app.js";
 import { download, notice, writeWhole } from "../../host/elements.js";
-import { cursor, isPast, shownCount } from "../../host/shown.js";
+import { cursor, isAhead, isPast, shownCount } from "../../host/shown.js";
 import { runningProgram } from "../source/sourceprogram.js";
 import { grouped } from "../../formats/texts.js";
 import { noteChecked } from "../timeline/timeline.js";
@@ -33,24 +33,29 @@ function sayIfCut(what, { isWhole, count, full = "the recording has reached its 
 export async function saveRecording() {
   notice();
   const made = await paused("recording");
-  if (isPast()) notice(`This is all of the recording, up to ${grouped(made.count)}. "Save up to the cursor" ends it at ${grouped(shownCount())}.`);
+  const said = isPast() && !isAhead() ? `This is all of the recording, up to ${grouped(made.count)}. "Save up to the cursor" ends it at ${grouped(shownCount())}. ` : "";
+  if (said) notice(said.trim());
   sayIfCut("recording", made);
-  await saved(made);
+  await saved(made, said);
 }
 
 /** Saves the recording up to the count that is looked at. */
 export async function saveToCursor() {
   notice();
   const { at } = cursor, moment = at === null ? null : await app.past.moment(at);
-  if (moment) await saved(await app.live.ask("recordingTo", moment));
+  const made = moment && (await app.live.ask("recordingTo", moment));
+  if (made) await saved(made);
 }
 
-/** @param {Made} made */
-async function saved(made) {
+/**
+ * @param {Made} made
+ * @param {string} said what the page says of it already
+ */
+async function saved(made, said = "") {
   const name = savedName("orsr");
   download(name, made.bytes, "application/octet-stream");
   const begun = performance.now(), answer = await verdicts.own.check(name, made.bytes);
-  if (runningProgram()) notice("A recording has no source: Export, in the list of what is saved, writes both in one file.");
+  if (runningProgram()) notice(`${said}A recording has no source: Export, under Saved, writes both in one file.`);
   if (!answer) return;
   if (answer.status === 0) noteChecked(made.count);
   writeWhole("status", `${grouped(made.bytes.length)} bytes, checked in ${((performance.now() - begun) / 1000).toFixed(1)} s`);

@@ -30,7 +30,7 @@ function showForm(title, drafts) {
   const close = closer("Close the form", () => (desk.lesson ? commands.showLesson(desk.lesson) : set("lesson", { hidden: true })));
   done.className = "main";
   el("lesson").hidden = false;
-  el("lesson").replaceChildren(close, name, ...steps.flatMap(({ parts }) => parts), " ", more, " ", done, paragraph("Export, in the list of what is saved, writes one file with the lesson.", "hint"));
+  el("lesson").replaceChildren(close, name, ...steps.flatMap(({ parts }) => parts), " ", more, " ", done, paragraph("Export, under Saved, writes one file with the lesson.", "hint"));
 }
 
 /** Returns the fields of a step, and how to read them.

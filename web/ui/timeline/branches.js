@@ -24,7 +24,7 @@ export function mayBranch() {
 
 /** Begins the work of a run that was taken over at a count. What was left is a branch from now on, with an item of its own.
  * @param {number} at
- * @param {Requests["takeOver"][1]} answer */
+ * @param {NonNullable<Requests["takeOver"][1]>} answer */
 export function branchOff(at, { left, begun, fork }) {
   const before = app.work, family = before.family ?? Date.now(), { list, made } = branches;
   Object.assign(before, { family, parent: at, end: left?.count ?? lanes.end });
@@ -73,7 +73,7 @@ async function toBranch(branch) {
 }
 
 export function showBranches() {
-  const { list } = branches, items = list.map((work) => {
+  const list = [...branches.list].sort((one, other) => one.number - other.number), items = list.map((work) => {
     const back = button(work.branch, () => toBranch(work));
     back.title = `Return to ${work.branch}`;
     return [back, ` from ${secondsOf(work.parent)} to ${secondsOf(work.end)}; `];

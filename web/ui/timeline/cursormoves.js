@@ -135,10 +135,13 @@ export async function takeOverHere() {
   if (at === null || isAhead()) return;
   notice();
   const [moment, now] = await Promise.all([at, nowCount()].map((count) => app.past.moment(count)));
-  if (!moment || !now || !mayBranch()) return;
+  // Of two clicks the first one counts.
+  if (!moment || !now || cursor.at !== at || !mayBranch()) return;
   cursorToNow();
   closeCard();
-  branchOff(at, await app.live.ask("takeOver", moment));
+  const answer = await app.live.ask("takeOver", moment);
+  if (!answer) return;
+  branchOff(at, answer);
   setToGoOn(true);
   forgetAfter(at);
   dropSent(now.sent - moment.sent);

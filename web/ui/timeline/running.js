@@ -38,6 +38,7 @@ export async function takeOver() {
   notice();
   setToGoOn(!app.latest?.on);
   const answer = await app.live.ask("takeOver");
+  if (!answer) return;
   if (app.work.id !== null) branchOff(nowCount(), answer);
   else await followWork(Object.assign(app.work, { fork: answer.fork, journals: [] }), answer.begun);
   el("screen").focus({ preventScroll: true });
