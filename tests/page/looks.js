@@ -109,7 +109,7 @@ async function reachSlowly() {
 /** Fifty looks at random counts, a thousand steps forward and back, over inputs and a stop. */
 async function look() {
   const session = drawing(7, 300, 100000), desk = new Desk(), fresh = new Fresh(session), random = chance(11), end = 30000000, times = [];
-  expect("a look at nothing", await desk.past.peek(0).catch((error) => error.message), "no machine is open");
+  expect("a look at nothing", await desk.past.peek(0), null);
   await desk.openSession(session);
   await desk.run(end);
   for (const at of [...Array.from({ length: 50 }, () => random(end)), 0, end]) {

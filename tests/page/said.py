@@ -7,6 +7,7 @@ import struct
 import galluspa.formats.recording
 from tests.page.desk import HOW, LINE, MODE, NOTICE, OWN_LINE, Desk, expect, fail, program
 from galluspa.formats.recording import Event
+from tests.page.stops import press_button
 from tests.tools.samples import EXAMPLES, JUMP, PROGRAM, STORED, claim, encoded, page_of, record, rejoining, run, session
 
 # Sends a byte with every other instruction.
@@ -292,7 +293,20 @@ def refuse_each(desk: Desk) -> None:
     )
 
 
+def say_nothing_early(desk: Desk) -> None:
+    """The first machine that is opened is shown in the tab that was chosen before, and nothing is said of what was asked too early."""
+    page = desk.page
+    for tab, found in (("memory", "el('memory').textContent.includes('00000 ')"), ("code", "el('trace').textContent.includes('MOV')")):
+        desk.reload()
+        press_button(desk, f"tab-{tab}")
+        desk.choose("face.orsr", STORED)
+        page.wait(f"galluspa.frame() && {found}")
+        expect("what the page says", page.answer(NOTICE), "")
+    print("said: nothing of what was asked before the first machine was open")
+
+
 TASKS = (
+    say_nothing_early,
     say_full,
     fill_inputs,
     fill_pages,

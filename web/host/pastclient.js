@@ -78,13 +78,14 @@ export class Past {
     this.news(news);
   }
 
-  /** Asks something about the machine that is open. Returns null if another one is open by the time of the answer.
+  /** Asks something about the machine that is open. Returns null if none is, or another one by the time of the answer: the first frame of a machine comes
+   * before the answer that it is open.
    * @template {RequestName} Name
    * @param {Name} ask
    * @param {Requests[Name][0]} given
    * @returns {Promise<Requests[Name][1] | null>} */
   async ask(ask, given = {}) {
-    const { generation } = this, answer = await this.helper.ask(ask, { generation, ...given });
+    const { generation } = this, answer = generation ? await this.helper.ask(ask, { generation, ...given }) : null;
     return generation === this.generation ? answer : null;
   }
 

@@ -158,7 +158,7 @@ export class History {
    * @param {number | undefined} generation
    * @param {number} count */
   async known(generation, count) {
-    if (!generation) throw new Refused("no machine is open");
+    if (!generation) throw new Ended();
     while (this.generation < generation) await this.heard();
     if (this.generation !== generation) throw new Ended();
     if (count <= this.end) return;
