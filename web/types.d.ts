@@ -157,6 +157,7 @@ interface Labels {
   family?: number;
   number?: number;
   parent?: number;
+  changedAt?: number;
 }
 
 /** A machine with only those pages of its memory that are not zero. */

@@ -296,6 +296,47 @@ def continue_last(folder: Path) -> None:
     print("left: Continue goes on with what was worked on last: its source, its breakpoints, its cursor")
 
 
+def continue_by_double_clicks(folder: Path) -> None:
+    """A double click on what goes on with something is one: the second click is not of another page, which would make a copy."""
+    with begun(folder) as who:
+        who.choose("draws.asm", DRAWS.encode())
+        who.page.wait(f"{TEXT}.includes('Draws what is typed')")
+        write_first(who, ";One ")
+        who.page.wait("!isSourceUnsafe()")
+        for press, offered in (("#g-continue", "Source draws.asm"), ("#g-write", "Source draws.asm"), ("#g-continue", "draws")):
+            who.reload()
+            who.page.wait(
+                f"!el('continue').disabled && document.getElementById('g-continue-what').textContent.startsWith('{offered},')"
+            )
+            double_click(who, press)
+            who.page.wait(f"{TEXT}.includes(';One')")
+            if offered == "draws":
+                who.page.wait(f"{WORD} === 'PAUSED' && galluspa.source().isRunning")
+            # What the second click does comes within two answers of the browser.
+            time.sleep(0.5)
+            expect(f"what is said after two clicks on {press}", who.page.answer(NOTICE), "")
+            if press == "#g-write":
+                who.press_button("#g-source-run")
+                who.page.wait(f"{WORD} === 'LIVE' && document.activeElement.id === 'g-screen'")
+                who.run_or_pause()
+                who.page.wait("galluspa.work().about")
+        expect("what is kept of it", who.page.answer("summaries().then(({ runs, sources }) => [runs.length, sources.length])"), [1, 1])
+        who.expect_sound()
+    print("left: a double click on Continue is one")
+
+
+def double_click(who: Person, selector: str) -> None:
+    """Clicks twice on the middle of an element, at once."""
+    found = f"document.querySelector('{selector}')"
+    x, y = who.page.answer(
+        f"(({{ left, top, width, height }}) => [left + width / 2, top + height / 2])({found}.getBoundingClientRect())"
+    )
+    who.page.point("mouseMoved", x, y)
+    for clicks in (1, 2):
+        who.page.point_with("mousePressed", x, y, 1, 0, clicks)
+        who.page.point_with("mouseReleased", x, y, 0, 0, clicks)
+
+
 def leave_while_resuming(folder: Path) -> None:
     """What was looked at is kept though the page is loaded anew while a run is resumed whose source takes long to be read."""
     with begun(folder) as who:
@@ -483,6 +524,7 @@ TASKS = (
     list_sources,
     keep_beside_many,
     continue_last,
+    continue_by_double_clicks,
     leave_while_resuming,
     keep_several,
     fill_with_several,

@@ -200,6 +200,12 @@ def export(desk: Desk) -> None:
     desk.reload()
     page.wait(f"({ENTRIES}).length === 1")
     expect("the branches that are kept", page.answer("el('kept-list').querySelectorAll('p').length"), 2)
+    expect("what one continues with, as it was worked on last", "branch 2" in page.answer(shown("continue-what")), True)
+    press_button(desk, "continue")
+    page.wait(f"galluspa.work().number === 2 && {SENT} === 'bc' && galluspa.source().isRunning")
+    open_source(desk, "other.asm", DRAWS)
+    exported(desk, "echo")
+    desk.expect_notice("a source that the run is not of", r"other\.asm is not in the file, since this run is not of it\.")
     print("projects: exported, accepted, opened as a page and by a drop, and kept once it goes on")
 
 

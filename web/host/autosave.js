@@ -61,13 +61,15 @@ async function keepNow(work, isByTime, isSaidAgain) {
   if (!isStored) return;
   Object.assign(work, { kept: now, inputs, at: performance.now(), safe: news });
   if (work.isNewer) keepSoon();
-  for (const branch of branches.list) if (branch.left && branch.id === null) inTurn(() => storeLeft(branch));
+  for (const branch of branches.list) if (branch.left && branch.id === null) inTurn(() => storeLeft(branch, work.about));
 }
 
-/** Keeps a branch that is in this page only, beside its run, which is kept.
- * @param {Work} branch */
-async function storeLeft(branch) {
-  if (branch.left && branch.id === null && (await store(branch, branch.left, labelsOf(branch)))) branch.left = null;
+/** Keeps a branch that is in this page only, beside its run, which is kept, and which was worked on last.
+ * @param {Work} branch
+ * @param {KeptAbout | null} about */
+async function storeLeft(branch, about) {
+  const labels = { ...labelsOf(branch), ...(about ? { changedAt: about.changedAt - 1 } : {}) };
+  if (branch.left && branch.id === null && (await store(branch, branch.left, labels))) branch.left = null;
 }
 
 /** @param {Whole & { fork: number }} kept */

@@ -143,10 +143,10 @@ function unpackedMachine(machine) {
 
 // Writing
 
-/** Returns the records of all of a machine: its item, and what that is about.
+/** Returns the records of all of a machine: its item, and what that is about. It is changed now, unless the labels say when it was.
  * @param {Labels & Partial<Whole> & { id: number, by?: string | null, until?: number }} given */
 export function wholeRecords({ live, ...rest }) {
-  const item = { ...rest, changedAt: Date.now(), ...(live ? { live: packed(live) } : {}) };
+  const item = { changedAt: Date.now(), ...rest, ...(live ? { live: packed(live) } : {}) };
   return { item, about: aboutOf(item) };
 }
 

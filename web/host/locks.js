@@ -13,6 +13,23 @@ const own = new Set();
 /** @type {BroadcastChannel | null} */
 let channel = null;
 
+// What is being opened here: items, or what else is opened by a name.
+/** @type {Set<number | string>} */
+const opening = new Set();
+
+/** Does what opens something, unless that is under way: of two clicks the first one counts, and the second one is not of another page.
+ * @param {number | string} id
+ * @param {() => Promise<void>} task */
+export async function openedOnce(id, task) {
+  if (opening.has(id)) return;
+  opening.add(id);
+  try {
+    await task();
+  } finally {
+    opening.delete(id);
+  }
+}
+
 /** Takes the lock of an item: returns how to release it, or null if another page has it, or this one.
  * @param {number | string} id
  * @returns {Promise<Held | null>} */

@@ -23,7 +23,7 @@ import { resumeNames } from "../code/symbolfiles.js";
 import { many, messageOf, plainName } from "../../formats/texts.js";
 import { offerToContinue } from "../screen/welcome.js";
 import { Work } from "../../host/journal.js";
-import { locked } from "../../host/locks.js";
+import { locked, openedOnce } from "../../host/locks.js";
 
 const MOST_NAME = 80;
 
@@ -161,7 +161,10 @@ function unreadable(error) {
 
 /** Resumes what is kept, with its branches, the source that it was run from, its breakpoints, its watches, its notes and its cursor.
  * @param {number} id */
-export async function resume(id) {
+export const resume = (id) => openedOnce(id, () => resumeNow(id));
+
+/** @param {number} id */
+async function resumeNow(id) {
   if (!(await mayLeave())) return;
   const work = new Work(""), { ran } = await resumed(work, id, async ({ family }) => (family === undefined ? NO_BRANCHES : familyOf(family, id)));
   try {

@@ -2,7 +2,7 @@
 /* Exports the project that is open: one HTML file that is this page with the project in it. Its recording is in the form of a report's, which `galluspa recording-of`
  * reads; beside it is a JSON with all else. */
 import { app, branches } from "../../host/app.js";
-import { desk, sourceFile, sourcesNow } from "../source/desk.js";
+import { desk, editor, FIRST_SOURCE, sourceFile, sourcesNow } from "../source/desk.js";
 import { closeMenus, download, el, notice } from "../../host/elements.js";
 import { readItem } from "../../host/items.js";
 import { symbolFile } from "../../host/names.js";
@@ -20,7 +20,13 @@ export async function exportProject() {
   const { name } = app.work, { bytes, end } = await recorded(), project = await projectNow();
   download(`${name}.html`, new Blob(await exportedPage(name, bytes, writtenProject(project))), "text/html");
   closeMenus();
-  notice(end);
+  notice([end, leftOut()].filter(Boolean).join(" "));
+}
+
+/** Says that the source in its tab is not in the file, since the run is not of it; or nothing. */
+function leftOut() {
+  const isWritten = editor && sourcesNow().some(([, text]) => text.trim() && text !== FIRST_SOURCE);
+  return isWritten && app.work.ran?.id !== openSourceId() ? `${desk.file} is not in the file, since this run is not of it.` : "";
 }
 
 /** Returns the recording of the run that is open: all of the file while that is replayed. It says where the recording ends, if that is before the machine's count. */

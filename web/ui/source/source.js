@@ -11,6 +11,7 @@ import { attempt, button, download, el, made, named, notice, on, paragraph, set,
 import { forgetExplained } from "./explaining.js";
 import { listenToHelp, offerSoon } from "./helping.js";
 import { keepRunSoon } from "../../host/autosave.js";
+import { openedOnce } from "../../host/locks.js";
 import { lineOf, names, setNames, setSource } from "../../host/names.js";
 import { compareRuns, forgetOther } from "./runcomparison.js";
 import { setRun } from "../timeline/running.js";
@@ -79,7 +80,9 @@ function showPart(file) {
 }
 
 /** Begins a program, or continues with what was written last. */
-export async function writeProgram() {
+export const writeProgram = () => openedOnce("a program", writeNow);
+
+async function writeNow() {
   if (!desk.isEdited && !(await openNewest())) {
     await beginSource();
     showSource(FIRST_FILE, FIRST_SOURCE);

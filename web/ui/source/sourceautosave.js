@@ -8,7 +8,7 @@ import { attempt, closeMenus, notice, set } from "../../host/elements.js";
 import { publish } from "../../host/events.js";
 import { aboutId, dropItems, isSourceId, sizeText, SOURCE, summaries } from "../../host/items.js";
 import { inTurn } from "../../host/autosave.js";
-import { locked } from "../../host/locks.js";
+import { locked, openedOnce } from "../../host/locks.js";
 import { pins } from "../../host/pins.js";
 import { Refusal } from "../../host/requests.js";
 import { storage, withKept, writtenAtOnce } from "../../host/storage.js";
@@ -246,7 +246,10 @@ export async function openNewest() {
 
 /** Opens a source that is kept, as it is now, with its caret and its breakpoints. One that is open already stays as it is.
  * @param {string} id */
-export async function openKept(id) {
+export const openKept = (id) => openedOnce(id, () => openKeptNow(id));
+
+/** @param {string} id */
+async function openKeptNow(id) {
   closeMenus();
   if (isOpen() && id === openItem.id) return showTab("source");
   const kept = await keptNow(id);
