@@ -326,8 +326,11 @@ def continue_by_double_clicks(folder: Path) -> None:
 
 
 def double_click(who: Person, selector: str) -> None:
-    """Clicks twice on the middle of an element, at once."""
+    """Clicks twice on the middle of an element, at once, after it has come to its place."""
     found = f"document.querySelector('{selector}')"
+    who.page.wait("demo")
+    who.page.answer(f"{found}.scrollIntoView({{ block: 'nearest' }})")
+    who.page.answer("new Promise((done) => requestAnimationFrame(() => requestAnimationFrame(() => done())))")
     x, y = who.page.answer(
         f"(({{ left, top, width, height }}) => [left + width / 2, top + height / 2])({found}.getBoundingClientRect())"
     )
