@@ -169,8 +169,11 @@ def list_sources(folder: Path) -> None:
         open_kept(who, "Open", many)
         who.page.wait(f"{TEXT}.includes('MOV R2, 0')")
         who.page.wait(f"{NUMBER} === '{many - 1}'")
-        open_kept(who, "Delete")
+        # The second click would be on another one.
+        who.press_button("#g-kept summary")
+        double_click(who, "[...document.querySelectorAll('#g-kept-list button')].filter((it) => it.textContent === 'Delete')[1]", 0.2)
         who.page.wait(f"{NUMBER} === '{many - 2}'")
+        expect("what is left after a double click on Delete", who.page.answer(NUMBER), f"{many - 2}")
         open_kept(who, "Undo")
         who.page.wait(f"{NUMBER} === '{many - 1}'")
         # The list still shows the source that is opened, and not yet the one that is left.
@@ -308,7 +311,8 @@ def continue_by_double_clicks(folder: Path) -> None:
             who.page.wait(
                 f"!el('continue').disabled && document.getElementById('g-continue-what').textContent.startsWith('{offered},')"
             )
-            double_click(who, press)
+            who.page.wait("demo")
+            double_click(who, f"document.querySelector('{press}')")
             who.page.wait(f"{TEXT}.includes(';One')")
             if offered == "draws":
                 who.page.wait(f"{WORD} === 'PAUSED' && galluspa.source().isRunning")
@@ -325,10 +329,8 @@ def continue_by_double_clicks(folder: Path) -> None:
     print("left: a double click on Continue is one")
 
 
-def double_click(who: Person, selector: str) -> None:
-    """Clicks twice on the middle of an element, at once, after it has come to its place."""
-    found = f"document.querySelector('{selector}')"
-    who.page.wait("demo")
+def double_click(who: Person, found: str, pause: float = 0) -> None:
+    """Clicks twice on the middle of the element that an expression is of, with a pause in seconds between, after it has come to its place."""
     who.page.answer(f"{found}.scrollIntoView({{ block: 'nearest' }})")
     who.page.answer("new Promise((done) => requestAnimationFrame(() => requestAnimationFrame(() => done())))")
     x, y = who.page.answer(
@@ -338,6 +340,7 @@ def double_click(who: Person, selector: str) -> None:
     for clicks in (1, 2):
         who.page.point_with("mousePressed", x, y, 1, 0, clicks)
         who.page.point_with("mouseReleased", x, y, 0, 0, clicks)
+        time.sleep(pause)
 
 
 def leave_while_resuming(folder: Path) -> None:

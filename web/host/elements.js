@@ -80,6 +80,13 @@ export function button(text, task) {
   return Object.assign(made("button", text), { type: "button", onclick: () => attempt(task) });
 }
 
+/** Makes a button of a list that its task changes. The second click of a double click does nothing, since another item may be there by then.
+ * @param {string} text
+ * @param {Task} task */
+export function listButton(text, task) {
+  return Object.assign(button(text, task), { onclick: (/** @type {MouseEvent} */ { detail }) => (detail === 2 ? undefined : attempt(task)) });
+}
+
 /** Makes a button that closes something.
  * @param {string} what
  * @param {Task} task */

@@ -5,7 +5,7 @@ import { send } from "../../host/app.js";
 import { commands } from "../../host/commands.js";
 import { ALL_BITS, CHANGE, COUNTER } from "../../formats/conditions.js";
 import { timesOf } from "./counts.js";
-import { button, el, made, notice, set, write } from "../../host/elements.js";
+import { button, el, listButton, made, notice, set, write } from "../../host/elements.js";
 import { publish } from "../../host/events.js";
 import { placeText } from "../../host/names.js";
 import { wantHits } from "../timeline/hits.js";
@@ -40,7 +40,7 @@ export function showBreaks() {
 
 /** @param {number} pc */
 function breakRow(pc) {
-  const row = made("li", ""), name = placeText(4 * pc), drop = button("×", () => toggleBreak(pc)), go = button("", () => commands.showWord(pc));
+  const row = made("li", ""), name = placeText(4 * pc), drop = listButton("×", () => toggleBreak(pc)), go = button("", () => commands.showWord(pc));
   go.append(made("bdi", name || "no name"), ` ${bothOf(4 * pc)}`);
   drop.setAttribute("aria-label", `Drop the breakpoint at ${name || pc}`);
   row.dataset.pc = `${pc}`;

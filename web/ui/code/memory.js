@@ -3,7 +3,7 @@
 import { address, bothOf, memoryAddress } from "../../host/addresses.js";
 import { app } from "../../host/app.js";
 import { setWatches } from "./breakpoints.js";
-import { attempt, button, el, isNarrow, made, notice, on, set, write } from "../../host/elements.js";
+import { attempt, button, el, isNarrow, listButton, made, notice, on, set, write } from "../../host/elements.js";
 import { askLastWriter } from "./lastwriter.js";
 import { onNames, placeText } from "../../host/names.js";
 import { isTab, MOST_BREAKS, shownCount, shownState, watches } from "../../host/shown.js";
@@ -136,7 +136,7 @@ export function showWatches() {
 
 /** @param {Watch} watch */
 function watchButton({ first, end }) {
-  const name = placeText(first), made = button(`${name ? `${name}, ` : ""}${address(first)}${end - first > 1 ? ` to ${address(end - 1)}` : ""} ×`, async () => {
+  const name = placeText(first), made = listButton(`${name ? `${name}, ` : ""}${address(first)}${end - first > 1 ? ` to ${address(end - 1)}` : ""} ×`, async () => {
     select(first, end - 1);
     watchSelected();
   });

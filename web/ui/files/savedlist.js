@@ -5,7 +5,7 @@ import { app, branches, NO_BRANCHES } from "../../host/app.js";
 import { familyOf } from "../timeline/branches.js";
 import { sendBreaks, setBreaks, setWatches } from "../code/breakpoints.js";
 import { offer } from "../../host/commands.js";
-import { attempt, button, el, made, named, notice, paragraph, set, write } from "../../host/elements.js";
+import { attempt, button, el, listButton, made, named, notice, paragraph, set, write } from "../../host/elements.js";
 import { inTurn, keep } from "../../host/autosave.js";
 import { dropItems, nameIn, readItem, relabel, sizeText, summaries } from "../../host/items.js";
 import { moveCursor, runTo, showMode } from "../timeline/cursormoves.js";
@@ -99,11 +99,11 @@ async function keepAnew() {
  * @param {Project} project */
 function projectItem(project) {
   const head = headOf(project), { runs, source } = project, [, ...others] = runs;
-  const parts = [...itemOf(head, nameOf(project), [...pinning(head, runs.length > 1 || Boolean(source)), button("Delete", () => remove(project))])];
+  const parts = [...itemOf(head, nameOf(project), [...pinning(head, runs.length > 1 || Boolean(source)), listButton("Delete", () => remove(project))])];
   if (!others.length) return parts;
   const more = made("details", "", "runs"), size = partsOf(project).reduce((sum, one) => sum + one.size, 0), place = made("div", "", "kept");
   more.append(made("summary", `${many(others.length, "older run")}, ${sizeText(size)} in all`), place);
-  place.append(...others.flatMap((run) => itemOf(run, run.name, [...pinning(run, true), button("Delete", () => remove({ ...project, source: null, runs: [run] }))])));
+  place.append(...others.flatMap((run) => itemOf(run, run.name, [...pinning(run, true), listButton("Delete", () => remove({ ...project, source: null, runs: [run] }))])));
   return [...parts, more];
 }
 
@@ -114,7 +114,7 @@ function projectItem(project) {
 function itemOf(item, name, buttons) {
   const { isReadable, isSource, isPinned, text, shades } = item, what = itemText(isSource ? "Source " : isPinned ? "Pinned: " : "", isSource ? item.name : name, text);
   if (shades) what.prepend(smallPicture(shades));
-  return [what, ...(isReadable ? [button(isSource ? "Open" : "Resume", () => goOnWith(item))] : []), ...buttons];
+  return [what, ...(isReadable ? [listButton(isSource ? "Open" : "Resume", () => goOnWith(item))] : []), ...buttons];
 }
 
 /** Returns the button by which a run is listed by itself, or again with the others of its project.
@@ -122,7 +122,7 @@ function itemOf(item, name, buttons) {
  * @param {boolean} isOneOfSeveral */
 function pinning({ id, isSource, isReadable, isPinned = false }, isOneOfSeveral) {
   if (isSource || !isReadable || !(isPinned || isOneOfSeveral)) return [];
-  const press = button(isPinned ? "Unpin" : "Pin", async () => {
+  const press = listButton(isPinned ? "Unpin" : "Pin", async () => {
     await withLocks([id], () => relabel(id, { pinned: !isPinned }));
     await showKept();
   });
@@ -135,7 +135,7 @@ function pinning({ id, isSource, isReadable, isPinned = false }, isOneOfSeveral)
 export const goOnWith = ({ id, isSource }) => (isSource ? openKept(id) : resume(id));
 
 /** @param {Deleted} item */
-const deletedItem = (item) => [itemText("Deleted: ", item.name, item.text), button("Undo", () => bringBack(item))];
+const deletedItem = (item) => [itemText("Deleted: ", item.name, item.text), listButton("Undo", () => bringBack(item))];
 
 /** Returns the text of an item: a word before its name, and what it is.
  * @param {string} before

@@ -3,7 +3,7 @@
  * storage, and the count at which it parts from the others. */
 import { app, branches, setBranches, setWork } from "../../host/app.js";
 import { commands } from "../../host/commands.js";
-import { attempt, button, el, notice } from "../../host/elements.js";
+import { attempt, el, listButton, notice } from "../../host/elements.js";
 import { publish } from "../../host/events.js";
 import { relabel, summaries } from "../../host/items.js";
 import { followWork, inTurn, keep, labelsOf, store } from "../../host/autosave.js";
@@ -74,7 +74,7 @@ async function toBranch(branch) {
 
 export function showBranches() {
   const list = [...branches.list].sort((one, other) => one.number - other.number), items = list.map((work) => {
-    const back = button(work.branch, () => toBranch(work));
+    const back = listButton(work.branch, () => toBranch(work));
     back.title = `Return to ${work.branch}`;
     return [back, ` from ${secondsOf(work.parent)} to ${secondsOf(work.end)}; `];
   });

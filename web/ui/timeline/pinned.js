@@ -1,7 +1,7 @@
 // @ts-check
 /* The notes that are pinned to counts: their list, and how one is written. The lane has them, too. */
 import { app } from "../../host/app.js";
-import { button, el, made, notice, on } from "../../host/elements.js";
+import { button, el, listButton, made, notice, on } from "../../host/elements.js";
 import { moveCursor } from "./cursormoves.js";
 import { pin, pins } from "../../host/pins.js";
 import { secondsOf, shownCount } from "../../host/shown.js";
@@ -17,7 +17,7 @@ export function showPins() {
 /** @param {number} count
  * @param {string} text */
 function noteRow(count, text) {
-  const row = made("li", ""), drop = button("×", () => pin(count, ""));
+  const row = made("li", ""), drop = listButton("×", () => pin(count, ""));
   drop.setAttribute("aria-label", `Delete the note at ${grouped(count)}`);
   row.append(button(`${grouped(count)} · ${secondsOf(count)}`, () => moveCursor(count)), " ", made("bdi", text), " ", drop);
   return row;
