@@ -245,7 +245,9 @@ def walk_stops(desk: Desk) -> None:
             for is_back in (False, True):
                 stops_of(desk, f"the tab {name} at {size}{' back' if is_back else ''}", is_back)
     page.resize(1400, 900)
-    print(f"Tab: {numbers[0]} stops of an empty page, {numbers[1:]} with a recording; each is seen, also in small windows and back, and the tabs are one")
+    print(
+        f"Tab: {numbers[0]} stops of an empty page, {numbers[1:]} with a recording; each is seen, also in small windows and back, and the tabs are one"
+    )
 
 
 def tell_parts(desk: Desk) -> None:

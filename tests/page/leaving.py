@@ -39,9 +39,13 @@ NUMBER = "document.getElementById('g-kept-number').textContent"
 SLOW_LIST = "(() => { const read = sourceSummaries; sourceSummaries = (listed) => new Promise((done) => setTimeout(done, 500)).then(() => read(listed)); })()"
 
 # The source of a run takes two seconds to be read.
-SLOW_SOURCE = "(() => { const read = keptNow; keptNow = (id) => new Promise((done) => setTimeout(done, 2000)).then(() => read(id)); })()"
+SLOW_SOURCE = (
+    "(() => { const read = keptNow; keptNow = (id) => new Promise((done) => setTimeout(done, 2000)).then(() => read(id)); })()"
+)
 # What is looked at, as the browser keeps it: how many breakpoints, watches and notes, and the cursor.
-LOOKED_AT = "(({ breaks, watches, notes, cursor }) => [breaks.length, watches.length, notes.length, cursor])(galluspa.work().about.desk)"
+LOOKED_AT = (
+    "(({ breaks, watches, notes, cursor }) => [breaks.length, watches.length, notes.length, cursor])(galluspa.work().about.desk)"
+)
 
 
 def begin_program(who: Person) -> None:
@@ -171,7 +175,9 @@ def list_sources(folder: Path) -> None:
         who.page.wait(f"{NUMBER} === '{many - 1}'")
         # The second click would be on another one.
         who.press_button("#g-kept summary")
-        double_click(who, "[...document.querySelectorAll('#g-kept-list button')].filter((it) => it.textContent === 'Delete')[1]", 0.2)
+        double_click(
+            who, "[...document.querySelectorAll('#g-kept-list button')].filter((it) => it.textContent === 'Delete')[1]", 0.2
+        )
         who.page.wait(f"{NUMBER} === '{many - 2}'")
         expect("what is left after a double click on Delete", who.page.answer(NUMBER), f"{many - 2}")
         open_kept(who, "Undo")
@@ -324,7 +330,9 @@ def continue_by_double_clicks(folder: Path) -> None:
                 who.page.wait(f"{WORD} === 'LIVE' && document.activeElement.id === 'g-screen'")
                 who.run_or_pause()
                 who.page.wait("galluspa.work().about")
-        expect("what is kept of it", who.page.answer("summaries().then(({ runs, sources }) => [runs.length, sources.length])"), [1, 1])
+        expect(
+            "what is kept of it", who.page.answer("summaries().then(({ runs, sources }) => [runs.length, sources.length])"), [1, 1]
+        )
         who.expect_sound()
     print("left: a double click on Continue is one")
 

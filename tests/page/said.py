@@ -296,7 +296,10 @@ def refuse_each(desk: Desk) -> None:
 def say_nothing_early(desk: Desk) -> None:
     """The first machine that is opened is shown in the tab that was chosen before, and nothing is said of what was asked too early."""
     page = desk.page
-    for tab, found in (("memory", "el('memory').textContent.includes('00000 ')"), ("code", "el('trace').textContent.includes('MOV')")):
+    for tab, found in (
+        ("memory", "el('memory').textContent.includes('00000 ')"),
+        ("code", "el('trace').textContent.includes('MOV')"),
+    ):
         desk.reload()
         press_button(desk, f"tab-{tab}")
         desk.choose("face.orsr", STORED)
