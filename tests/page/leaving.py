@@ -306,7 +306,7 @@ def continue_last(folder: Path) -> None:
 
 
 def continue_by_double_clicks(folder: Path) -> None:
-    """A double click on what goes on with something is one: the second click is not of another page, which would make a copy."""
+    """A double click on what goes on with something, or on *Run*, is one: the second click is not of another page, which would make a copy."""
     with begun(folder) as who:
         who.choose("draws.asm", DRAWS.encode())
         who.page.wait(f"{TEXT}.includes('Draws what is typed')")
@@ -326,7 +326,7 @@ def continue_by_double_clicks(folder: Path) -> None:
             time.sleep(0.5)
             expect(f"what is said after two clicks on {press}", who.page.answer(NOTICE), "")
             if press == "#g-write":
-                who.press_button("#g-source-run")
+                double_click(who, "document.querySelector('#g-source-run')")
                 who.page.wait(f"{WORD} === 'LIVE' && document.activeElement.id === 'g-screen'")
                 who.run_or_pause()
                 who.page.wait("galluspa.work().about")

@@ -211,7 +211,9 @@ export async function tieSources() {
 // Running
 
 /** Runs the program from its beginning; while the text has problems, the last program without any, and says so. */
-export async function runSource() {
+export const runSource = () => openedOnce("a run", runNow);
+
+async function runNow() {
   const found = await programToRun();
   if (!found) return;
   forgetOther();
