@@ -497,6 +497,9 @@ def branch(desk: Desk) -> None:
         expect("the program's line", program("check", text)[0].split()[0], "accepted")
     page.answer("document.querySelector('#g-branches button').click()")
     page.wait("branches.list[0]?.branch === 'branch 1' && !galluspa.isPast()")
+    page.wait("galluspa.work().kept")
+    newest = page.answer("summaries().then(({ runs }) => runs[0].number)")
+    expect("the branch that was worked on last, as one returned to it", newest, page.answer("galluspa.work().number"))
     print(f"branches: taken over before a key, and returned to; both accepted, {page.answer(OWN_LINE) or 'each with its keys'}")
 
 

@@ -6,7 +6,7 @@ import { familyOf } from "../timeline/branches.js";
 import { sendBreaks, setBreaks, setWatches } from "../code/breakpoints.js";
 import { offer } from "../../host/commands.js";
 import { attempt, button, el, listButton, made, named, notice, paragraph, set, write } from "../../host/elements.js";
-import { inTurn, keep } from "../../host/autosave.js";
+import { inTurn, keep, keepRunSoon } from "../../host/autosave.js";
 import { dropItems, nameIn, readItem, relabel, sizeText, summaries } from "../../host/items.js";
 import { moveCursor, runTo, showMode } from "../timeline/cursormoves.js";
 import { mayLeave, showOpened } from "./opening.js";
@@ -234,7 +234,7 @@ export async function resumed(work, id, branchesOf) {
     const { kept, about } = work.left ? { kept: /** @type {Kept} */ ({ ...work.labels, ...work.left }), about: null } : await readItem(id);
     const others = await branchesOf(kept), answer = await app.live.ask("resume", { kept, isKeptOn: isFree });
     const { family, number = 1, parent = 0, until = kept.count, by = work.by, ran, pinned: isPinned = false } = kept, { generation, fork, program } = answer;
-    Object.assign(work, { name: nameIn(kept), generation, fork, program, family, number, parent, by, ran, isPinned, about, journals: [], left: null, unshown: { symbols: kept.symbols } });
+    Object.assign(work, { name: nameIn(kept), generation, fork, program, family, number, parent, end: until, by, ran, isPinned, about, journals: [], left: null, unshown: { symbols: kept.symbols } });
     // Without its state a machine is at its last checkpoint, and what it sent later comes again.
     Object.assign(work, { sent: kept.live ? kept.sent : kept.first ? "" : sentIn(kept.recording), isStored: isFree && !isOnlyHere && until === kept.count && Boolean(kept.live), kept: "" });
     if (!isFree) Object.assign(work, { id: null, by: null, about: null });
@@ -242,6 +242,8 @@ export async function resumed(work, id, branchesOf) {
     // What is looked at in a branch that one returns to is what was looked at in the one before.
     if (kept.desk && !isBranch) restore(kept.desk);
     attempt(() => resumeNames(kept.symbols)).then(() => delete work.unshown.symbols);
+    // It is what was worked on last from now on.
+    if (isFree) keepRunSoon();
     if (kept.first) notice("An earlier page kept this session without its recording: Run plays it back and records it.");
     else if (app.latest?.isReplay) await playBack(until);
     if (!isFree) notice("This recording is open in another page: what you do here is kept as a copy.");
