@@ -38,6 +38,11 @@ NUMBER = "document.getElementById('g-kept-number').textContent"
 # The list of what is kept takes half a second to be read.
 SLOW_LIST = "(() => { const read = sourceSummaries; sourceSummaries = (listed) => new Promise((done) => setTimeout(done, 500)).then(() => read(listed)); })()"
 
+# The browser's storage takes nothing.
+FULL = """
+globalThis.transaction = IDBDatabase.prototype.transaction;
+IDBDatabase.prototype.transaction = () => { throw new DOMException("There is no room.", "QuotaExceededError"); };
+"""
 # The source of a run takes two seconds to be read.
 SLOW_SOURCE = (
     "(() => { const read = keptNow; keptNow = (id) => new Promise((done) => setTimeout(done, 2000)).then(() => read(id)); })()"
@@ -109,6 +114,31 @@ def fill_storage(folder: Path) -> None:
         who.page.wait(f"{TEXT}.includes('MOV R1, 11')")
         who.expect_sound()
     print("left: a source that a full storage does not take stays in the page, which asks, and is written later")
+
+
+def note_when_full(folder: Path) -> None:
+    """A note that a full storage does not take is said not to be kept, asks before it is left, and is written once there is room, though nothing is done by then."""
+    with begun(folder) as who:
+        who.begin_drawing()
+        who.type("a")
+        who.run_or_pause()
+        who.wait_until_kept()
+        # The browser lets small records pass a limit of its storage.
+        who.page.answer(FULL)
+        who.press_button("#g-tab-log")
+        who.press_button("#g-note")
+        who.page.insert("here")
+        who.page.press("Enter")
+        who.page.wait(f"{NOTICE} === 'This browser cannot keep where you are in draw: There is no room.'")
+        expect("whether the browser asks before the page is left", who.page.is_kept_open(), True)
+        who.page.answer("IDBDatabase.prototype.transaction = globalThis.transaction")
+        who.page.wait("galluspa.work().about.desk.notes.length === 1")
+        expect("whether the browser asks once it is written", who.page.is_kept_open(), False)
+        who.ready()
+        continue_with(who, "draw")
+        who.page.wait("pins.size === 1")
+        who.expect_sound()
+    print("left: a note that a full storage does not take asks, and is written later")
 
 
 def leave_before_written(folder: Path) -> None:
@@ -532,6 +562,7 @@ def end_in_a_project(folder: Path) -> None:
 TASKS = (
     end_in_a_project,
     fill_storage,
+    note_when_full,
     leave_before_written,
     go_back_and_forth,
     deny_storage,

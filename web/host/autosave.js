@@ -214,10 +214,17 @@ export async function keepDesk(isLeaving = false) {
     await writtenAtOnce([written], { isLeaving });
     keeping.isDeskRefused = false;
   } catch (error) {
-    // It is tried again with the next change, and said once.
+    // It is tried again by time, and said once.
+    if (work.about === written) work.about = about;
     if (!keeping.isDeskRefused) notice(`This browser cannot keep where you are in ${work.name}: ${messageOf(error)}`);
     keeping.isDeskRefused = true;
   }
+}
+
+/** Whether the browser refused to keep what is looked at now. */
+export function isDeskUnsafe() {
+  const { work } = app;
+  return keeping.isDeskRefused && work.about !== null && JSON.stringify(work.about.desk) !== JSON.stringify(labelsOf(work).desk);
 }
 
 /** Keeps what a machine was that is no longer there, and gives its item free.

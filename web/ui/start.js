@@ -9,7 +9,7 @@ import {
 import { playDemo } from "./screen/demo.js";
 import { attempt, closeMenus, el, keepInWindow, notice, on } from "../host/elements.js";
 import { heard } from "./frameupdates.js";
-import { isNoteUnsafe, isUnsafe, keep, KEEP_MS, keepAtOnce, keepDesk } from "../host/autosave.js";
+import { isDeskUnsafe, isNoteUnsafe, isUnsafe, keep, KEEP_MS, keepAtOnce, keepDesk } from "../host/autosave.js";
 import "./files/board.js";
 import { exportProject } from "./report/exporting.js";
 import { forgetAll, pinOpen, renameOpen, showKept } from "./files/savedlist.js";
@@ -134,7 +134,7 @@ function listenToWindow() {
   document.addEventListener("visibilitychange", () => (allAtOnce(), keep()));
   addEventListener("pagehide", allAtOnce);
   addEventListener("beforeunload", (event) => {
-    if (isAnyUnkept() || isUnsafe() || isNoteUnsafe() || isSourceUnsafe()) event.preventDefault();
+    if (isAnyUnkept() || isUnsafe() || isNoteUnsafe() || isDeskUnsafe() || isSourceUnsafe()) event.preventDefault();
     allAtOnce();
   });
 }

@@ -277,7 +277,10 @@ export async function keptNow(id) {
 
 /** Opens the sources that a machine was run from, with what was written in them since, if that is kept.
  * @param {Ran} ran */
-export async function openRan({ id, file, sources }) {
+export const openRan = (ran) => openedOnce(ran.id, () => openRanNow(ran));
+
+/** @param {Ran} ran */
+async function openRanNow({ id, file, sources }) {
   if (editor && id === openItem.id) return showTab("source");
   const found = await keptNow(id);
   if (found) return showKeptSource(found);
