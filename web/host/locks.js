@@ -15,18 +15,18 @@ let channel = null;
 
 // What is being opened here: items, or what else is opened by a name.
 /** @type {Set<number | string>} */
-const opening = new Set();
+const beingOpened = new Set();
 
 /** Does what opens something, unless that is under way: of two clicks the first one counts, and the second one is not of another page.
  * @param {number | string} id
  * @param {() => Promise<void>} task */
 export async function openedOnce(id, task) {
-  if (opening.has(id)) return;
-  opening.add(id);
+  if (beingOpened.has(id)) return;
+  beingOpened.add(id);
   try {
     await task();
   } finally {
-    opening.delete(id);
+    beingOpened.delete(id);
   }
 }
 
