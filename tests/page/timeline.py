@@ -9,7 +9,7 @@ import re
 import time
 
 import galluspa.formats.recording
-from tests.page.desk import CTRL, JUDGED, OWN_LINE, SENT, SHIFT, Desk, expect, fail, program, shown
+from tests.page.desk import CTRL, JUDGED, NOTICE, OWN_LINE, SENT, SHIFT, Desk, expect, fail, program, shown
 from tests.tools.samples import EXAMPLES, JUMP, PROGRAM, claim, encoded, in_register, page_of, rejoining, run, session
 
 FACE = (EXAMPLES / "face.orsr").read_bytes()
@@ -495,8 +495,15 @@ def branch(desk: Desk) -> None:
     expect("the branches that are shown", page.answer("branches.list.length"), 1)
     for text in (own, other):
         expect("the program's line", program("check", text)[0].split()[0], "accepted")
-    page.answer("document.querySelector('#g-branches button').click()")
+    # Read anew, a branch has to be taken first, which a second press would find taken.
+    page.wait("galluspa.work().isStored && !galluspa.work().isNewer")
+    desk.reload()
+    page.wait("!el('continue').disabled")
+    desk.click("continue")
+    page.wait("galluspa.work().generation && branches.list.length === 1 && galluspa.frame() && !galluspa.frame().isReplay")
+    page.answer("for (const _ of [1, 2]) document.querySelector('#g-branches button').click()")
     page.wait("branches.list[0]?.branch === 'branch 1' && !galluspa.isPast()")
+    expect("what is said of a branch that was pressed twice", page.answer(NOTICE), "")
     page.wait("galluspa.work().kept")
     newest = page.answer("summaries().then(({ runs }) => runs[0].number)")
     expect("the branch that was worked on last, as one returned to it", newest, page.answer("galluspa.work().number"))
