@@ -17,7 +17,7 @@ let channel = null;
 /** @type {Set<number | string>} */
 const beingOpened = new Set();
 
-/** Does what opens something, unless that is under way: of two clicks the first one counts, and the second one is not of another page.
+/** Does what opens or changes something, unless that is under way: of two clicks the first one counts, and the second one is not of another page.
  * @param {number | string} id
  * @param {() => Promise<void>} task */
 export async function openedOnce(id, task) {

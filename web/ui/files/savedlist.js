@@ -256,10 +256,16 @@ export async function resumed(work, id, branchesOf) {
 
 // Deleting
 
-/** Does something with items that no other page has open; else it is refused.
+/** Does something with items that no other page has open; else it is refused. What is asked for twice is done once.
  * @param {any[]} ids
  * @param {() => Promise<unknown>} task */
-async function withLocks(ids, task) {
+const withLocks = (ids, task) => openedOnce(`locks of ${ids.join()}`, () => withLocksNow(ids, task));
+
+/**
+ * @param {any[]} ids
+ * @param {() => Promise<unknown>} task
+ */
+async function withLocksNow(ids, task) {
   const locks = await Promise.all(ids.map(locked));
   try {
     if (locks.includes(null)) throw new Refusal("This project is open in another page, so it cannot be changed or deleted here.");
