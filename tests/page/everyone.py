@@ -220,7 +220,8 @@ def stops_of(desk: Desk, what: str, is_back: bool = False) -> list[str]:
 
 
 def walk_stops(desk: Desk) -> None:
-    """By Tab one comes to no control that is not seen, empty and with each tab in sight; the tabs are one stop, and arrows go from one to the next."""
+    """By Tab one comes to no control that is not seen, empty and with each tab in sight, also in small windows and back; the tabs are one stop, and arrows go from one to
+    the next."""
     page = desk.page
     page.resize(1366, 768)
     desk.reload()

@@ -136,7 +136,8 @@ def type_at_once(desk: Desk) -> None:
     page.press("b")
     page.wait(f"{SENT} === 'ab'")
     expect("what the page says", page.answer(NOTICE), "")
-    desk.ready()
+    # From here on it hears at once again.
+    desk.reload()
     print("keys: those that are typed right after Run go to the machine")
 
 

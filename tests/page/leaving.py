@@ -53,6 +53,14 @@ LOOKED_AT = (
 )
 
 
+def draw_and_pause(who: Person) -> None:
+    """Starts the drawing program, types a key, pauses, and waits until that is kept."""
+    who.begin_drawing()
+    who.type("a")
+    who.run_or_pause()
+    who.wait_until_kept()
+
+
 def begin_program(who: Person) -> None:
     """Begins a program from nothing: by the card of the empty page, or by the menu."""
     if who.page.answer(f"!{TEXT} && document.getElementById('g-write').checkVisibility()"):
@@ -119,10 +127,7 @@ def fill_storage(folder: Path) -> None:
 def note_when_full(folder: Path) -> None:
     """A note that a full storage does not take is said not to be kept, asks before it is left, and is written once there is room, though nothing is done by then."""
     with begun(folder) as who:
-        who.begin_drawing()
-        who.type("a")
-        who.run_or_pause()
-        who.wait_until_kept()
+        draw_and_pause(who)
         # The browser lets small records pass a limit of its storage.
         who.page.answer(FULL)
         who.press_button("#g-tab-log")
@@ -229,10 +234,7 @@ def keep_beside_many(folder: Path) -> None:
     """An input is kept though the page is left right after a machine was opened or branched off beside forty large items of an earlier build, which
     can still be resumed. A run of a small program takes some kilobytes."""
     with begun(folder) as who:
-        who.begin_drawing()
-        who.type("a")
-        who.run_or_pause()
-        who.wait_until_kept()
+        draw_and_pause(who)
         who.page.answer(MANY_ITEMS)
         who.reload()
         who.page.wait(f"{NUMBER} === '41'")
@@ -277,10 +279,7 @@ def continue_last(folder: Path) -> None:
     """*Continue* resumes what was worked on last: a recording with its source, breakpoints and cursor, or a source with its caret. *Run* over a
     source without instructions leaves the machine."""
     with begun(folder) as who:
-        who.begin_drawing()
-        who.type("a")
-        who.run_or_pause()
-        who.wait_until_kept()
+        draw_and_pause(who)
         who.choose("draws.asm", DRAWS.encode())
         who.page.wait(f"{TEXT}.includes('Draws what is typed')")
         who.press_button("#g-source .text .chunk > :first-child")

@@ -501,13 +501,16 @@ def branch(desk: Desk) -> None:
     page.wait("!el('continue').disabled")
     desk.click("continue")
     page.wait("galluspa.work().generation && branches.list.length === 1 && galluspa.frame() && !galluspa.frame().isReplay")
+    # From here on nothing is kept by time.
+    page.answer("for (let id = setInterval(() => {}); id > 0; id--) clearInterval(id)")
     page.answer("for (const _ of [1, 2]) document.querySelector('#g-branches button').click()")
     page.wait("branches.list[0]?.branch === 'branch 1' && !galluspa.isPast()")
     expect("what is said of a branch that was pressed twice", page.answer(NOTICE), "")
     page.wait("galluspa.work().kept")
     newest = page.answer("summaries().then(({ runs }) => runs[0].number)")
     expect("the branch that was worked on last, as one returned to it", newest, page.answer("galluspa.work().number"))
-    print(f"branches: taken over before a key, and returned to; both accepted, {page.answer(OWN_LINE) or 'each with its keys'}")
+    desk.reload()
+    print(f"branches: taken over before a key, and returned to; both accepted, each with its keys")
 
 
 def ask_before_dropping(desk: Desk) -> None:

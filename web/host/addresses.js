@@ -70,10 +70,10 @@ function registerValue(name, state) {
   return at === undefined ? undefined : field(state, at);
 }
 
-/** Says of a text that was written why it is none of what belongs there, or, of an empty field, only what belongs there.
+/** Returns what the page says of a text that it cannot read: the text, and why; of an empty field only what belongs there.
  * @param {string} text
  * @param {string} why */
-export const noneOf = (text, why) => (text.trim() ? `${shown(text)}: ${why}` : `${why[0].toUpperCase()}${why.slice(1)}`);
+export const refusalText = (text, why) => (text.trim() ? `${shown(text)}: ${why}` : `${why[0].toUpperCase()}${why.slice(1)}`);
 
 /** Returns an address of memory that was written, or refuses it.
  * @param {string} text
@@ -82,7 +82,7 @@ export function memoryAddress(text, state) {
   const address = readAddress(text, state);
   if (address >= 0 && address < MEMORY_BYTES) return address;
   if (address >= 0) throw new Refusal(`${text} is ${hex(address, 1)}, and memory ends at FFFFF.`);
-  throw new Refusal(noneOf(text, `an address is hexadecimal, ·32 for the word 32, a register such as SP, or a name${names.from ? "" : " of a symbol file"}.`));
+  throw new Refusal(refusalText(text, `an address is hexadecimal, ·32 for the word 32, a register such as SP, or a name${names.from ? "" : " of a symbol file"}.`));
 }
 
 /** Returns an address of memory as it is written.

@@ -13,20 +13,20 @@ const own = new Set();
 /** @type {BroadcastChannel | null} */
 let channel = null;
 
-// What is being opened here: items, or what else is opened by a name.
+// What is being done here, by the id of an item or by a name.
 /** @type {Set<number | string>} */
-const beingOpened = new Set();
+const tasksUnderWay = new Set();
 
-/** Does what opens or changes something, unless that is under way: of two clicks the first one counts, and the second one is not of another page.
+/** Does something with an item, or something that has a name, unless that is under way: of two clicks the first one counts, and the second one is not of another page.
  * @param {number | string} id
  * @param {() => Promise<void>} task */
-export async function openedOnce(id, task) {
-  if (beingOpened.has(id)) return;
-  beingOpened.add(id);
+export async function oneAtATime(id, task) {
+  if (tasksUnderWay.has(id)) return;
+  tasksUnderWay.add(id);
   try {
     await task();
   } finally {
-    beingOpened.delete(id);
+    tasksUnderWay.delete(id);
   }
 }
 

@@ -1,7 +1,7 @@
 // @ts-check
 /* The listing of the code: all words of memory, of which the rows in sight are made, with labels and lines of sources between them, a gutter for
  * breakpoints, and how often each word was executed. */
-import { noneOf, readAddress } from "../../host/addresses.js";
+import { refusalText, readAddress } from "../../host/addresses.js";
 import { app } from "../../host/app.js";
 import { showHits, toggleBreak } from "./breakpoints.js";
 import { offer } from "../../host/commands.js";
@@ -247,7 +247,7 @@ function codeByForm(event) {
   notice();
   const text = el("code-at").value, address = readAddress(text, shownState()), word = address / 4;
   if (address >= 4 * WORDS) return notice(`${shown(text)} = ${hex(address, 1)} is no code address.`);
-  if (!(address >= 0)) return notice(noneOf(text, `an address is hexadecimal, ·32 for the word 32, a register, or a name${names.from ? "" : " of a symbol file"}.`));
+  if (!(address >= 0)) return notice(refusalText(text, `an address is hexadecimal, ·32 for the word 32, a register, or a name${names.from ? "" : " of a symbol file"}.`));
   if (event.submitter?.getAttribute("value") === "break" && address % 4 === 0 && !breaks.has(word)) toggleBreak(word);
   showWord(Math.floor(word));
 }

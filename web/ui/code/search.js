@@ -1,6 +1,6 @@
 // @ts-check
 /* Searches: at which count something happens, before the cursor or after it. */
-import { address, bothOf, noneOf, readAddress, readCode } from "../../host/addresses.js";
+import { address, bothOf, refusalText, readAddress, readCode } from "../../host/addresses.js";
 import { app } from "../../host/app.js";
 import { conditionsOfBreaks } from "./breakpoints.js";
 import { ALL_BITS, BECOMES, CHANGE, COUNTER, LOAD, SENDS, SENDS_BYTE, STOP, STORE, TAKES, WRITES } from "../../formats/conditions.js";
@@ -135,10 +135,10 @@ function searchByForm(event) {
 function conditionsOfForm() {
   const [kind, , about, valued] = wanted(Number(el("search-kind").value));
   const range = about ? rangeOf(el("search-range").value, about) : { from: 0, end: 1 };
-  if (!range) return notice(noneOf(el("search-range").value, FORMS[about ?? "PC"])), null;
+  if (!range) return notice(refusalText(el("search-range").value, FORMS[about ?? "PC"])), null;
   const fixed = kind === TAKES ? Number(el("input-kind").value) : kind === CHANGE ? ALL_BITS : 0;
   const value = valued ? valueOf(el("search-value").value) : fixed;
-  if (value === null) return notice(noneOf(el("search-value").value, "a value is a number, hexadecimal after 0x, or a character in quotes.")), null;
+  if (value === null) return notice(refusalText(el("search-value").value, "a value is a number, hexadecimal after 0x, or a character in quotes.")), null;
   return [{ kind, ...range, value }];
 }
 

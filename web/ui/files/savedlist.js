@@ -23,7 +23,7 @@ import { resumeNames } from "../code/symbolfiles.js";
 import { many, messageOf, plainName } from "../../formats/texts.js";
 import { offerToContinue } from "../screen/welcome.js";
 import { Work } from "../../host/journal.js";
-import { locked, openedOnce } from "../../host/locks.js";
+import { locked, oneAtATime } from "../../host/locks.js";
 
 const MOST_NAME = 80;
 
@@ -161,7 +161,7 @@ function unreadable(error) {
 
 /** Resumes what is kept, with its branches, the source that it was run from, its breakpoints, its watches, its notes and its cursor.
  * @param {number} id */
-export const resume = (id) => openedOnce(id, () => resumeNow(id));
+export const resume = (id) => oneAtATime(id, () => resumeNow(id));
 
 /** @param {number} id */
 async function resumeNow(id) {
@@ -259,7 +259,7 @@ export async function resumed(work, id, branchesOf) {
 /** Does something with items that no other page has open; else it is refused. What is asked for twice is done once.
  * @param {any[]} ids
  * @param {() => Promise<unknown>} task */
-const withLocks = (ids, task) => openedOnce(`locks of ${ids.join()}`, () => withLocksNow(ids, task));
+const withLocks = (ids, task) => oneAtATime(`locks of ${ids.join()}`, () => withLocksNow(ids, task));
 
 /**
  * @param {any[]} ids

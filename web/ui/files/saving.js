@@ -19,24 +19,21 @@ export async function saveSession() {
   notice();
   const made = await paused("session");
   download(savedName("json"), made.bytes, "application/json");
-  sayIfCut("session", made);
+  notice(cutText("session", made));
 }
 
-/** Says where what was saved ends, if that is before the machine's count.
+/** Says where what was saved ends, if that is before the machine's count; else nothing.
  * @param {string} what
  * @param {Made} made */
-function sayIfCut(what, { isWhole, count, full = "the recording has reached its limit of checkpoints" }) {
-  if (!isWhole) notice(`The ${what} ends with its checkpoint at ${grouped(count)}: ${full}.`);
+function cutText(what, { isWhole, count, full = "the recording has reached its limit of checkpoints" }) {
+  return isWhole ? "" : `The ${what} ends with its checkpoint at ${grouped(count)}: ${full}.`;
 }
 
 /** Saves the recording, and checks it to show its verdict line. In the past it is all of it, which the page says. */
 export async function saveRecording() {
   notice();
-  const made = await paused("recording");
-  const said = isPast() && !isAhead() ? `This is all of the recording, up to ${grouped(made.count)}. "Save up to the cursor" ends it at ${grouped(shownCount())}. ` : "";
-  if (said) notice(said.trim());
-  sayIfCut("recording", made);
-  await saved(made, said);
+  const made = await paused("recording"), isMore = isPast() && !isAhead();
+  await saved(made, [isMore ? `This is all of the recording, up to ${grouped(made.count)}. "Save up to the cursor" ends it at ${grouped(shownCount())}.` : "", cutText("recording", made)]);
 }
 
 /** Saves the recording up to the count that is looked at. */
@@ -49,13 +46,13 @@ export async function saveToCursor() {
 
 /**
  * @param {Made} made
- * @param {string} said what the page says of it already
+ * @param {string[]} said what else the page says of it
  */
-async function saved(made, said = "") {
-  const name = savedName("orsr");
+async function saved(made, said = []) {
+  const name = savedName("orsr"), source = runningProgram() ? "A recording has no source: Export, under Saved, writes both in one file." : "";
   download(name, made.bytes, "application/octet-stream");
+  notice([...said, source].filter(Boolean).join(" "));
   const begun = performance.now(), answer = await verdicts.own.check(name, made.bytes);
-  if (runningProgram()) notice(`${said}A recording has no source: Export, under Saved, writes both in one file.`);
   if (!answer) return;
   if (answer.status === 0) noteChecked(made.count);
   writeWhole("status", `${grouped(made.bytes.length)} bytes, checked in ${((performance.now() - begun) / 1000).toFixed(1)} s`);

@@ -11,7 +11,7 @@ import { attempt, button, download, el, made, named, notice, on, paragraph, set,
 import { forgetExplained } from "./explaining.js";
 import { listenToHelp, offerSoon } from "./helping.js";
 import { keepRunSoon } from "../../host/autosave.js";
-import { openedOnce } from "../../host/locks.js";
+import { oneAtATime } from "../../host/locks.js";
 import { lineOf, names, setNames, setSource } from "../../host/names.js";
 import { compareRuns, forgetOther } from "./runcomparison.js";
 import { setRun } from "../timeline/running.js";
@@ -80,7 +80,7 @@ function showPart(file) {
 }
 
 /** Begins a program, or continues with what was written last. */
-export const writeProgram = () => openedOnce("a program", writeNow);
+export const writeProgram = () => oneAtATime("a program", writeNow);
 
 async function writeNow() {
   if (!desk.isEdited && !(await openNewest())) {
@@ -211,7 +211,7 @@ export async function tieSources() {
 // Running
 
 /** Runs the program from its beginning; while the text has problems, the last program without any, and says so. */
-export const runSource = () => openedOnce("a run", runNow);
+export const runSource = () => oneAtATime("a run", runNow);
 
 async function runNow() {
   const found = await programToRun();

@@ -8,7 +8,7 @@ import { attempt, closeMenus, notice, set } from "../../host/elements.js";
 import { publish } from "../../host/events.js";
 import { aboutId, dropItems, isSourceId, sizeText, SOURCE, summaries } from "../../host/items.js";
 import { inTurn } from "../../host/autosave.js";
-import { locked, openedOnce } from "../../host/locks.js";
+import { locked, oneAtATime } from "../../host/locks.js";
 import { pins } from "../../host/pins.js";
 import { Refusal } from "../../host/requests.js";
 import { storage, withKept, writtenAtOnce } from "../../host/storage.js";
@@ -246,7 +246,7 @@ export async function openNewest() {
 
 /** Opens a source that is kept, as it is now, with its caret and its breakpoints. One that is open already stays as it is.
  * @param {string} id */
-export const openKept = (id) => openedOnce(id, () => openKeptNow(id));
+export const openKept = (id) => oneAtATime(id, () => openKeptNow(id));
 
 /** @param {string} id */
 async function openKeptNow(id) {
@@ -277,7 +277,7 @@ export async function keptNow(id) {
 
 /** Opens the sources that a machine was run from, with what was written in them since, if that is kept.
  * @param {Ran} ran */
-export const openRan = (ran) => openedOnce(ran.id, () => openRanNow(ran));
+export const openRan = (ran) => oneAtATime(ran.id, () => openRanNow(ran));
 
 /** @param {Ran} ran */
 async function openRanNow({ id, file, sources }) {

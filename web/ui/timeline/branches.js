@@ -11,7 +11,7 @@ import { secondsOf } from "../../host/shown.js";
 import { drawLanes } from "./drawing.js";
 import { lanes } from "./lanes.js";
 import { Work } from "../../host/journal.js";
-import { openedOnce } from "../../host/locks.js";
+import { oneAtATime } from "../../host/locks.js";
 
 const MOST_BRANCHES = 8;
 
@@ -65,7 +65,7 @@ export async function familyOf(family, id) {
 
 /** Returns to the end of a branch. What the machine did instead is a branch, too.
  * @param {Work} branch */
-const toBranch = (branch) => openedOnce("a branch", () => toBranchNow(branch));
+const toBranch = (branch) => oneAtATime("a branch", () => toBranchNow(branch));
 
 /** @param {Work} branch */
 async function toBranchNow(branch) {
