@@ -9,7 +9,7 @@ import re
 import time
 
 import galluspa.formats.recording
-from tests.page.desk import CTRL, JUDGED, NOTICE, OWN_LINE, SENT, SHIFT, Desk, expect, fail, program, shown
+from tests.page.desk import CTRL, JUDGED, NOTICE, SENT, SHIFT, Desk, expect, fail, program, shown
 from tests.tools.samples import EXAMPLES, JUMP, PROGRAM, claim, encoded, in_register, page_of, rejoining, run, session
 
 FACE = (EXAMPLES / "face.orsr").read_bytes()
