@@ -510,7 +510,7 @@ def branch(desk: Desk) -> None:
     newest = page.answer("summaries().then(({ runs }) => runs[0].number)")
     expect("the branch that was worked on last, as one returned to it", newest, page.answer("galluspa.work().number"))
     desk.reload()
-    print(f"branches: taken over before a key, and returned to; both accepted, each with its keys")
+    print("branches: taken over before a key, and returned to; both accepted, each with its keys")
 
 
 def ask_before_dropping(desk: Desk) -> None:
