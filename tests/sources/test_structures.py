@@ -53,7 +53,7 @@ def test_structures_are_those_of_the_header() -> None:
 
 
 def test_calls_are_those_of_the_header() -> None:
-    assert len(structures.CALLS) == 10
+    assert len(structures.CALLS) == 9
     assert structures.CALLS == {name: called(name) for name in structures.CALLS}
 
 

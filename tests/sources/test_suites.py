@@ -1,7 +1,7 @@
 """The parts that tests/run starts: how their arguments choose tests; and what tests/alongside says of what it runs."""
 
+import ast
 import shutil
-from importlib import import_module
 from importlib.machinery import SourceFileLoader
 from importlib.util import module_from_spec, spec_from_loader
 from pathlib import Path
@@ -9,14 +9,12 @@ from types import ModuleType
 
 import pytest
 
-from tests.page import closing, leaving, twotabs
-from tests.page.parts import PARTS
 from tests.support.parts import PROGRAMS, SCRIPTS, SUITES, page_words
 from tests.support.suites import chosen, processes
 from tests.tools.samples import TOP, run
 
 TOOLS = TOP / "tests/tools"
-FILM = str(TOOLS / "test_film.py")
+DIFF = str(TOOLS / "test_diff.py")
 PARTS_OF_GATE = ("programs", "library", "page", "tools")
 STUBS = ("tests/refused-growth", "tests/loop-cost", "tests/run", "./galluspa")
 COMMANDS = (
@@ -29,10 +27,11 @@ COMMANDS = (
     ("arguments", "wanted"),
     [
         ([], [str(TOOLS)]),
-        (["test_film"], [FILM]),
-        (["test_film.FilmTest.test_helps", "-x"], [f"{FILM}::FilmTest::test_helps", "-x"]),
-        (["-k", "test_film"], ["-k", "test_film", str(TOOLS)]),
-        (["-n", "0", "test_film"], ["-n", "0", FILM]),
+        (["test_diff"], [DIFF]),
+        (["diff"], [DIFF]),
+        (["test_diff.DiffTest.test_helps", "-x"], [f"{DIFF}::DiffTest::test_helps", "-x"]),
+        (["-k", "test_diff"], ["-k", "test_diff", str(TOOLS)]),
+        (["-n", "0", "test_diff"], ["-n", "0", DIFF]),
         (["test_none"], ["test_none", str(TOOLS)]),
     ],
 )
@@ -65,17 +64,9 @@ def script(name: str) -> ModuleType:
     return module
 
 
-def test_parts_of_the_page() -> None:
-    """The name of a part is an option, but not as the value of another; pytest gets a file in one word with its option."""
-    words = ["--module", "page.wasm", "timeline", "-k", "kept", "--part", "game", "build"]
-    assert page_words(words) == [
-        "--module=page.wasm",
-        "--part=timeline",
-        "-k",
-        "kept",
-        "--part=game",
-        "--part=build",
-    ]
+def test_a_module_of_the_page_is_one_word() -> None:
+    """Pytest gets a file in one word with its option."""
+    assert page_words(["--module", "page.wasm", "timeline", "-k", "kept"]) == ["--module=page.wasm", "timeline", "-k", "kept"]
 
 
 def test_each_part_is_listed_and_there() -> None:
@@ -87,12 +78,26 @@ def test_each_part_is_listed_and_there() -> None:
     assert [name for name in names if not (TOP / "tests" / name).exists()] == []
 
 
-def test_all_tasks_of_the_page_belong_to_a_part() -> None:
-    """No module has tasks that `tests/run page` does not do."""
-    modules = [path.stem for path in sorted((TOP / "tests/page").glob("*.py")) if "\nTASKS = " in path.read_text()]
-    tasks = {task for name in modules for task in import_module(f"tests.page.{name}").TASKS}
-    assert len(modules) > 5
-    assert tasks - {task for done in PARTS.values() for task in done} == {*closing.TASKS, *leaving.TASKS, *twotabs.TASKS}
+def test_tests_share_no_tests() -> None:
+    """A test of the page imports what drives the page, and no other test: what two of them need is in tests/page/driver."""
+    files = sorted((TOP / "tests/page").rglob("*.py"))
+    tests = {f"tests.page.{path.stem}" for path in files if path.parent.name == "page"}
+    assert len(tests) > 10
+    assert [
+        (path.name, name) for path in files for name in imported(path) if name in tests or name.startswith("tests.tools.test_")
+    ] == []
+
+
+def imported(path: Path) -> set[str]:
+    """Returns the modules that a file of Python imports."""
+    nodes = list(ast.walk(ast.parse(path.read_text())))
+    plain = {name.name for node in nodes if isinstance(node, ast.Import) for name in node.names}
+    return plain | {
+        name
+        for node in nodes
+        if isinstance(node, ast.ImportFrom)
+        for name in (node.module or "", *(f"{node.module}.{it.name}" for it in node.names))
+    }
 
 
 def alongside(folder: Path, lines: str) -> tuple[list[str], int]:
@@ -115,7 +120,7 @@ def test_what_runs_alongside_is_said(tmp_path: Path) -> None:
     assert status == 0
     assert said[:2] == [
         "alongside: once oberon_replay and refused_growth are built: tests/refused-growth",
-        "alongside: once oberon_answers and risc_search are built (and, after the first, galluspa and oberon_replay): "
+        "alongside: once galluspa is built (and, after the first, oberon_replay): "
         "./galluspa build-library --as-built, tests/loop-cost, tests/run page; "
         "then, side by side, tests/run programs, tests/run library, tests/run tools",
     ]
@@ -135,7 +140,7 @@ def test_what_does_not_run_alongside_is_not_said(tmp_path: Path) -> None:
 def test_what_waits_for_more_crates_is_not_begun_without_them(tmp_path: Path) -> None:
     """After the library is built, the tests wait for the program, too; a gate that ends without it ends them, and one that says that all
     is well is not believed."""
-    crates = ("risc_search", "oberon_answers", "oberon_replay", "refused_growth")
+    crates = ("risc_search", "oberon_answers", "galluspa", "refused_growth")
     lines = "".join(f"rt: {name} proved\n" for name in crates)
     said, status = alongside(tmp_path, f"{lines}3 passed, 1 failed\n")
     assert status == 0
@@ -143,7 +148,6 @@ def test_what_waits_for_more_crates_is_not_begun_without_them(tmp_path: Path) ->
     said, status = alongside(tmp_path, f"{lines}3 passed, 0 failed\n")
     assert status == 1
     assert "alongside: tests/loop-cost begins" not in said
-    assert "alongside: rt ci has not said that it built galluspa, oberon_replay" in said
 
 
 @pytest.mark.parametrize(
@@ -183,8 +187,8 @@ def test_mutants_begin_once_the_crates_below_are_built(tmp_path: Path) -> None:
     stub.chmod(0o755)
     said = run([tmp_path / "tests/alongside"], b"rt: low proved\n1 passed, 1 failed\n").output.decode().splitlines()
     assert [line for line in said if line.startswith("alongside: once") and "mutants" in line] == [
-        "alongside: once low are built: tests/mutants middle",
-        "alongside: once middle are built: tests/mutants up",
+        "alongside: once low is built: tests/mutants middle",
+        "alongside: once middle is built: tests/mutants up",
     ]
     assert "alongside: at the first proof: tests/mutants low" in said
     assert {line for line in said if line.endswith("begins")} <= {
