@@ -1,6 +1,6 @@
 -- Two shards that are true of one file do not contradict each other.
-use Rattle.std.proofs.Common.{◌≡◌, ◌≢◌, ℕ, ◌+◌, ◌<◌, ◌≤◌, List, Bool, not, true, None, Some, refl, ap, sym, ◌∙◌, arith, subst}
-use Rattle.std.specs.Prelude.{IsTrue}
+use Rattle.std.proofs.Common.{◌≡◌, ◌≢◌, ℕ, ◌+◌, ◌<◌, ◌≤◌, List, Bool, not, true, false, None, Some, refl, ap, sym, ◌∙◌, arith, subst, get_or, length}
+use Rattle.std.specs.Prelude.{All, IsTrue}
 use Rattle.std.specs.Str.{bytes_eq}
 use Rattle.std.proofs.lemmas.Slice.Eq.{bytes_eq-Decides}
 use Rattle.oberon_format.specs.Defined.{claimed}
@@ -16,8 +16,20 @@ use Rattle.oberon_check.proofs.Parts.{not_first}
 use Rattle.oberon_shards.specs.declared.shard.Shard.{Shard}
 use Rattle.oberon_shards.specs.declared.shard.Finding.{Finding}
 use Rattle.oberon_shards.specs.declared.shard.Finding.TheVariants.{Holds, Fails, Refused}
+use Rattle.oberon_shards.specs.Combining.{Agree, AgreeAs, Rise}
 use Rattle.oberon_shards.specs.Shard.{IsFailed, IsShardOf}
+use Rattle.oberon_shards.proofs.Counts.{rise_between}
 use Rattle.oberon_shards.proofs.Members.{found_of, last_is, not_refused}
+
+-- a test and its opposite
+pub not_both : (b : Bool) → IsTrue (not b) → IsTrue b → ⊥
+not_both b other is = let bad : not true ≡ true = rw is at other in absurd cc
+
+pub never_both : (b : Bool) → b ≡ false → ¬ (IsTrue b)
+never_both b is holds = let bad : false ≡ true = sym is ∙ holds in absurd cc
+
+rise_same : {a b c d w x y z : ℕ} → w ≡ a → x ≡ b → y ≡ c → z ≡ d → Rise a b c d → Rise w x y z
+rise_same ea eb ec ed is = rw (ea, eb, ec, ed) is
 
 -- lists that the test `!=` finds to differ
 pub unlike : (xs ys : List ℕ) (differ : Bool) → differ ≡ not (bytes_eq xs ys) → IsTrue differ → xs ≢ ys
@@ -105,5 +117,71 @@ module _ (one : HasOneRecording) (file : List ℕ) (a b : Shard) (is_a : IsShard
       let part : failed.part ≡ y.2.part = cc in
       failed.line_is ∙ rw (segment, part) refl ∙ sym y.2.line_is
 
+  -- the last count is not too low for the one that fails
+  pub rises_to_last : a.finding ≡ Fails → b.finding ≡ Holds → Rise a.to a.count b.last b.count
+  rises_to_last ea eb =
+      let x = found_of file a Fails is_a ea in
+      let y = found_of file b Holds is_b eb in
+      let r : RecordingParts = y.0 in
+      let failed : IsFailed r a = subst (λ (q : RecordingParts). IsFailed q a) (one file x.0 y.0 x.1 y.1) x.2 in
+      rise_same failed.to_is failed.count_is y.2.last_is y.2.count_is
+      (rise_between r y.1.is.lawful (failed.failed + 1) (last_of r) (omega (arith, failed.within)) (omega arith))
+
+  -- the counts of false checkpoints rise
+  pub rises_to : a.finding ≡ Fails → b.finding ≡ Fails → a.to < b.to → Rise a.to a.count b.to b.count
+  rises_to ea eb before =
+      let x = found_of file a Fails is_a ea in
+      let y = found_of file b Fails is_b eb in
+      let r : RecordingParts = y.0 in
+      let failed : IsFailed r a = subst (λ (q : RecordingParts). IsFailed q a) (one file x.0 y.0 x.1 y.1) x.2 in
+      let second : IsFailed r b = y.2 in
+      let order : failed.failed + 1 ≤ second.failed + 1 = omega (arith, before, failed.to_is, second.to_is) in
+      rise_same failed.to_is failed.count_is second.to_is second.count_is
+      (rise_between r y.1.is.lawful (failed.failed + 1) (second.failed + 1) order (omega (arith, second.within)))
+
 pub holds_alone : Holds ≡ Refused → ⊥
 holds_alone e = absurd cc
+
+-- lists that the test `!=` finds to be the same
+pub alike : (xs ys : List ℕ) (differ : Bool) → differ ≡ not (bytes_eq xs ys) → ¬ (IsTrue differ) → xs ≡ ys
+alike xs ys differ is differs = (bytes_eq-Decides xs ys).0 (not_false (bytes_eq xs ys) (λ e. differs (rw (is, e) refl)))
+  where
+    not_false : (b : Bool) → (b ≡ false → ⊥) → b ≡ true
+    not_false true never = refl
+    not_false false never = absurd (never refl)
+
+-- what one shard that does not fail says of the others, another that it agrees with says, too
+pub same_finding : (a b : Shard) → Agree a b → ¬ (a.finding ≡ Fails) → ¬ (b.finding ≡ Fails) → a.finding ≡ b.finding
+same_finding a b is na nb = go a.finding b.finding na nb is.1
+  where
+    go : (f g : Finding) → ¬ (f ≡ Fails) → ¬ (g ≡ Fails) → AgreeAs f g a b → f ≡ g
+    go Holds Holds nf ng agree = refl
+    go Refused Refused nf ng agree = refl
+    go Holds Refused nf ng agree = absurd agree
+    go Refused Holds nf ng agree = absurd agree
+    go Fails g nf ng agree = absurd (nf refl)
+    go Holds Fails nf ng agree = absurd (ng refl)
+    go Refused Fails nf ng agree = absurd (ng refl)
+
+pub agree_alike : (a b c : Shard) → ¬ (a.finding ≡ Fails) → ¬ (b.finding ≡ Fails) → Agree a b → Agree a c → Agree b c
+agree_alike a b c na nb ab ac =
+    let both = same_finding a b ab na nb in
+    let line : AgreeAs b.finding b.finding a b = subst (λ (f : Finding). AgreeAs f b.finding a b) both ab.1 in
+    let other : AgreeAs b.finding c.finding a c = subst (λ (f : Finding). AgreeAs f c.finding a c) both ac.1 in
+    (sym ab.0 ∙ ac.0, go b.finding c.finding nb line other)
+  where
+    go : (f g : Finding) → ¬ (f ≡ Fails) → AgreeAs f f a b → AgreeAs f g a c → AgreeAs f g b c
+    go Holds Holds nf line other = sym line ∙ other
+    go Holds Fails nf line other = tt
+    go Holds Refused nf line other = other
+    go Refused Holds nf line other = other
+    go Refused Fails nf line other = other
+    go Refused Refused nf line other = sym line ∙ other
+    go Fails g nf line other = absurd (nf refl)
+
+-- the row of a shard that does not fail, after one that does not fail and agrees with all
+pub row_alike : (shards : List Shard) (like one : ℕ) → one < length shards → like < length shards
+    → ((d : Shard) → ¬ ((get_or shards like d).finding ≡ Fails)) → ((d : Shard) → ¬ ((get_or shards one d).finding ≡ Fails))
+    → ((d : Shard) → All (Agree (get_or shards like d)) shards) → (d : Shard) → All (Agree (get_or shards one d)) shards
+row_alike shards like one inside before na nb row d k e there =
+    agree_alike (get_or shards like d) (get_or shards one d) (get_or shards k e) (na d) (nb d) (row d one d inside) (row d k e there)

@@ -16,19 +16,8 @@ use Rattle.oberon_shards.specs.Border.{IsBetween, IsBorder}
 use Rattle.oberon_shards.specs.Combining.{IsMissing, IsOneOf}
 use Rattle.oberon_shards.specs.Laws.{HasIndexed, IsComplete}
 use Rattle.oberon_shards.specs.Shard.{IsFailed, IsShardOf}
+use Rattle.oberon_shards.proofs.Counts.{counts_between}
 use Rattle.oberon_shards.proofs.Members.{found_of, last_is, not_refused, of_member, segment_holds}
-
--- counts rise
-counts_rise : (r : RecordingParts) → IsLawful r → (k m : ℕ) → k < m → m < length r.checkpoints → count_at r k < count_at r m
-counts_rise r lawful k zero lt inside = absurd (omega arith)
-counts_rise r lawful k (suc m) lt inside =
-    let e : suc m ≡ m + 1 = omega arith in
-    let step : count_at r m < count_at r (m + 1) = lawful.rises m (omega arith) in
-    let last : count_at r (suc m) ≡ count_at r (m + 1) = ap (count_at r) e in
-    elim (cases_lt k m) [
-      | inl less ↦ (let before = counts_rise r lawful k m less (omega arith) in omega (arith, before, step, last))
-      | inr more ↦ (let same : count_at r k ≡ count_at r m = ap (count_at r) (omega arith) in omega (arith, same, step, last))
-    ]
 
 -- there is one border
 one_border : (r : RecordingParts) (i of a b : ℕ) → IsBorder r i of a → IsBorder r i of b → a ≤ b
@@ -51,7 +40,7 @@ last_border : (r : RecordingParts) → IsLawful r → (of b : ℕ) → 1 ≤ of 
 last_border r lawful of b some is =
     elim (cases_lt b (last_of r)) [
       | inl less ↦
-          let rises : count_at r b < count_at r (last_of r) = counts_rise r lawful b (last_of r) less (omega (arith, lawful.some)) in
+          let rises : count_at r b < count_at r (last_of r) = (let after = counts_between r lawful b (last_of r) (omega (arith, less)) (omega arith) in omega (arith, after, less)) in
           let product : of * (count_at r b + 1) ≤ of * count_at r (last_of r) = mul-le-mul_left of (omega (arith, rises)) in
           absurd (omega (arith, product, is.after, some))
       | inr more ↦ more

@@ -59,21 +59,20 @@ uncut byte text before after none is =
     none (length before) (omega arith) inside (rw found (eqb-same byte))
 
 -- the fields of a shard's line, and what comes after it
-abbrev pub shard_fields : Shard → List ℕ → List ℕ → List ℕ
-shard_fields s text more =
+abbrev pub shard_fields : Shard → List ℕ → List ℕ
+shard_fields s more =
     codes "shard" ++ 32 ∷ (encode_lower s.digest ++ 32 ∷ (decimal s.from ++ 32 ∷ (decimal s.to ++ 32 ∷ (decimal s.last
-    ++ 32 ∷ ((finding_word s.finding ++ codes ":") ++ 32 ∷ (text ++ 10 ∷ more))))))
+    ++ 32 ∷ ((finding_word s.finding ++ codes ":") ++ 32 ∷ (s.line.items ++ more))))))
 
 -- a field, the space after it and the rest, before more
-joined : (a b rest more : List ℕ) → b ++ more ≡ rest → (a ++ 32 ∷ b) ++ more ≡ a ++ 32 ∷ rest
+pub joined : (a b rest more : List ℕ) → b ++ more ≡ rest → (a ++ 32 ∷ b) ++ more ≡ a ++ 32 ∷ rest
 joined a b rest more is = append_assoc a (32 ∷ b) more ∙ ap (λ (x : List ℕ). a ++ 32 ∷ x) is
 
-pub fields_are : (s : Shard) (text more : List ℕ) → s.line.items ≡ text ++ 10 ∷ [] → shard_line s ++ more ≡ shard_fields s text more
-fields_are s text more is =
-    let ended : s.line.items ++ more ≡ text ++ 10 ∷ more = ap (λ (x : List ℕ). x ++ more) is ∙ append_assoc text (10 ∷ []) more in
-    let word : (finding_word s.finding ++ (codes ": " ++ s.line.items)) ++ more ≡ (finding_word s.finding ++ codes ":") ++ 32 ∷ (text ++ 10 ∷ more) =
+pub fields_are : (s : Shard) (more : List ℕ) → shard_line s ++ more ≡ shard_fields s more
+fields_are s more =
+    let word : (finding_word s.finding ++ (codes ": " ++ s.line.items)) ++ more ≡ (finding_word s.finding ++ codes ":") ++ 32 ∷ (s.line.items ++ more) =
     ap (λ (x : List ℕ). x ++ more) (sym (append_assoc (finding_word s.finding) (codes ":") (32 ∷ s.line.items)))
-    ∙ joined (finding_word s.finding ++ codes ":") s.line.items _ more ended in
+    ∙ joined (finding_word s.finding ++ codes ":") s.line.items _ more refl in
     ap (λ (x : List ℕ). codes "shard " ++ x) (joined (encode_lower s.digest) _ _ more (joined (decimal s.from) _ _ more (joined (decimal s.to) _ _ more (joined (decimal s.last) _ _ more word))))
 
 -- the test that no byte of a text is this one, which computes

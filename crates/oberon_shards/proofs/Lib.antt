@@ -1,9 +1,12 @@
 pub mod Lines
 pub mod Members
+pub mod Counts
 pub mod Apart
 pub mod Stretches
 pub mod Complete
 pub mod Fields
+pub mod PartNames
+pub mod LineFields
 pub mod Printed
 pub mod Texts
 pub mod OneReading

@@ -1,87 +1,24 @@
 -- What is true of a file has a line that can be read back.
-use Rattle.std.proofs.Common.{◌≡◌, ◌∙◌, ℕ, zero, suc, ◌<◌, ◌^◌, true, List, [], ◌∷◌, ◌++◌, Option, IfSome, arith, refl, sym, ap, subst, length}
-use Rattle.std.proofs.lemmas.List.{append_assoc}
-use Rattle.std.specs.Prelude.{codes}
-use Rattle.std.specs.Fmt.{decimal}
+use Rattle.std.proofs.Common.{◌≡◌, ◌∙◌, ℕ, zero, suc, ◌+◌, ◌<◌, ◌≤◌, List, [], ◌∷◌, ◌++◌, Option, IfSome, arith, sym, ap, subst, length}
 use Rattle.std.specs.Int.{byte_at, bytes_high_first}
-use Rattle.std.specs.Str.Iter.{LacksByte}
 use Rattle.hex.specs.Hex.{IsBytes}
 use Rattle.sha2.specs.Sha256.{digest_bytes, sha256}
 use Rattle.sha2.proofs.Facts256.{length-sha256}
+use Rattle.risc_model.specs.declared.inputs.TheConstants.{MAX_COUNT}
 use Rattle.oberon_format.proofs.Named.{fault_named}
-use Rattle.oberon_format.specs.Line.{IsNamedFault, fault_line, refused_line}
+use Rattle.oberon_format.specs.Defined.{claimed}
+use Rattle.oberon_format.specs.Line.{IsNamedFault}
+use Rattle.oberon_format.specs.Recording.{RecordingParts, count_at, last_of}
 use Rattle.oberon_format.specs.declared.fault.Fault.{Fault}
-use Rattle.oberon_format.specs.declared.fault.Fault.TheVariants as fault
-use Rattle.oberon_check.specs.declared.part.Part.{Part}
-use Rattle.oberon_check.specs.declared.part.Part.TheVariants as part
-use Rattle.oberon_check.specs.declared.verdict.Verdict.TheVariants.{Accepted, FalseAt}
-use Rattle.oberon_check.specs.Line.{line_of, part_name}
+use Rattle.recording_limits.specs.declared.limits.TheConstants.{LAST_CHECKPOINT}
+use Rattle.oberon_check.specs.Segment.{replayed}
 use Rattle.oberon_shards.specs.declared.shard.Shard.{Shard}
 use Rattle.oberon_shards.specs.declared.shard.Finding.{Finding}
 use Rattle.oberon_shards.specs.declared.shard.Finding.TheVariants.{Holds, Fails, Refused}
-use Rattle.oberon_shards.specs.Shard.{IsFound, IsShardOf}
-use Rattle.oberon_shards.specs.Lines.{IsOneLine, IsPrintable, IsSame}
-use Rattle.oberon_shards.proofs.Fields.{decimal_lacks, lacks, lacks_append, lacks_text}
-
--- a text before a line
-more_line : (xs line : List ℕ) → LacksByte 10 xs → IsOneLine line → IsOneLine (xs ++ line)
-more_line xs line lack is =
-    record { text = xs ++ is.text; lacks = lacks_append 10 xs is.text lack is.lacks; line_is = ap (λ (x : List ℕ). xs ++ x) is.line_is ∙ sym (append_assoc xs is.text (10 ∷ [])) }
-
-end_line : (xs : List ℕ) → LacksByte 10 xs → IsOneLine (xs ++ 10 ∷ [])
-end_line xs lack = record { text = xs; lacks = lack; line_is = refl }
-
-number_line : (n : ℕ) (line : List ℕ) → IsOneLine line → IsOneLine (decimal n ++ line)
-number_line n line is = more_line (decimal n) line (decimal_lacks 10 n (omega arith)) is
-
-word_line : (xs line : List ℕ) → lacks 10 xs ≡ true → IsOneLine line → IsOneLine (xs ++ line)
-word_line xs line lack is = more_line xs line (lacks_text 10 xs lack) is
-
-part_lacks : (p : Part) → LacksByte 10 (part_name p)
-unfolding lacks
-part_lacks (part.R n) = lacks_append 10 (codes "R") (decimal n) (lacks_text 10 (codes "R") refl) (decimal_lacks 10 n (omega arith))
-part_lacks part.H = lacks_text 10 (codes "H") refl
-part_lacks part.Pc = lacks_text 10 (codes "PC") refl
-part_lacks part.Flags = lacks_text 10 (codes "flags") refl
-part_lacks part.Stop = lacks_text 10 (codes "stop") refl
-part_lacks part.Timer = lacks_text 10 (codes "timer") refl
-part_lacks part.Rate = lacks_text 10 (codes "rate") refl
-part_lacks part.Phase = lacks_text 10 (codes "phase") refl
-part_lacks part.Switches = lacks_text 10 (codes "switches") refl
-part_lacks part.Leds = lacks_text 10 (codes "LEDs") refl
-part_lacks part.Mouse = lacks_text 10 (codes "mouse") refl
-part_lacks part.Serial = lacks_text 10 (codes "serial") refl
-part_lacks part.Keys = lacks_text 10 (codes "keys") refl
-part_lacks part.Sent = lacks_text 10 (codes "out") refl
-part_lacks (part.Page n) = lacks_append 10 (codes "page ") (decimal n) (lacks_text 10 (codes "page ") refl) (decimal_lacks 10 n (omega arith))
-
-accepted_line : (checkpoints steps : ℕ) → IsOneLine (line_of (Accepted checkpoints steps))
-unfolding lacks
-accepted_line checkpoints steps =
-    word_line (codes "accepted ") _ refl (number_line checkpoints _ (word_line (codes " checkpoints ") _ refl (number_line steps _ (end_line (codes " steps") (lacks_text 10 (codes " steps") refl)))))
-
-false_line : (checkpoint count : ℕ) (p : Part) → IsOneLine (line_of (FalseAt checkpoint count p))
-unfolding lacks
-false_line checkpoint count p =
-    word_line (codes "false checkpoint ") _ refl (number_line checkpoint _ (word_line (codes " at ") _ refl (number_line count _ (word_line (codes " part ") _ refl (end_line (part_name p) (part_lacks p))))))
-
-refused_one : (number : ℕ) (name : List ℕ) (byte : ℕ) → lacks 10 name ≡ true → IsOneLine (refused_line number name byte)
-unfolding lacks
-refused_one number name byte lack =
-    word_line (codes "refused ") _ refl (number_line number _ (word_line (codes " ") _ refl (word_line name _ lack (word_line (codes " at byte ") _ refl
-    (more_line (decimal byte) (10 ∷ []) (decimal_lacks 10 byte (omega arith)) (end_line [] (lacks_text 10 [] refl)))))))
-
-fault_one : (f : Fault) → IsNamedFault f → IsOneLine (fault_line f)
-unfolding lacks
-fault_one (fault.Short byte) named = refused_one 1 (codes "short") byte refl
-fault_one (fault.Magic byte) named = refused_one 2 (codes "magic") byte refl
-fault_one (fault.Version byte) named = refused_one 3 (codes "version") byte refl
-fault_one (fault.Limit byte) named = refused_one 4 (codes "limit") byte refl
-fault_one (fault.Event byte) named = refused_one 5 (codes "event") byte refl
-fault_one (fault.Checkpoint byte) named = refused_one 6 (codes "checkpoint") byte refl
-fault_one (fault.Page byte) named = refused_one 7 (codes "page") byte refl
-fault_one (fault.Trailing byte) named = refused_one 8 (codes "trailing") byte refl
-fault_one fault.Memory named = absurd named
+use Rattle.oberon_shards.specs.Shard.{IsFailed, IsFound, IsHeld, IsShardOf}
+use Rattle.oberon_shards.specs.Lines.{HasLine, IsInRanges, IsPrintable, IsSame}
+use Rattle.oberon_shards.proofs.Counts.{counts_between}
+use Rattle.oberon_shards.proofs.PartNames.{part_inside}
 
 -- a digest has bytes
 bytes_append : (xs ys : List ℕ) → IsBytes xs → IsBytes ys → IsBytes (xs ++ ys)
@@ -108,45 +45,64 @@ unfolding sha256
 sha256_bytes bytes = digest_are_bytes _ 8
 
 -- the numbers of a shard, and its line
-record HasRanges (s : Shard) : Type 0 where
-  from_fits : s.from < 2 ^ 32
-  to_fits : s.to < 2 ^ 32
-  last_fits : s.last < 2 ^ 32
-  line : IsOneLine s.line.items
+few : (file : List ℕ) (s : Shard) (f : Finding) → IsFound file f s → s.last ≤ LAST_CHECKPOINT
+few file s Holds is = omega (arith, is.1.is.lawful.few, is.1.is.lawful.some, is.2.last_is)
+few file s Fails is = omega (arith, is.1.is.lawful.few, is.1.is.lawful.some, is.2.last_is)
+few file s Refused is = omega (arith, is.last_is)
 
-ranges : (file : List ℕ) (s : Shard) (f : Finding) → IsFound file f s → HasRanges s
-ranges file s Holds is =
-    let few = is.1.is.lawful.few in record {
-      from_fits = omega (arith, few, is.2.order, is.2.within);
-      to_fits = omega (arith, few, is.2.within);
-      last_fits = omega (arith, few, is.2.last_is);
-      line = subst IsOneLine (sym is.2.line_is) (accepted_line _ _);
-    }
-ranges file s Fails is =
-    let few = is.1.is.lawful.few in record {
-      from_fits = omega (arith, few, is.2.order, is.2.within);
-      to_fits = omega (arith, few, is.2.to_is, is.2.within);
-      last_fits = omega (arith, few, is.2.last_is);
-      line = subst IsOneLine (sym is.2.line_is) (false_line _ _ _);
-    }
-ranges file s Refused is =
-    let named : IsNamedFault is.fault = subst (λ (o : Option Fault). IfSome o IsNamedFault) is.is_first (fault_named file) in record {
-      from_fits = omega (arith, is.from_is);
-      to_fits = omega (arith, is.to_is);
-      last_fits = omega (arith, is.last_is);
-      line = subst IsOneLine (sym is.line_is) (fault_one is.fault named);
-    }
+in_ranges : (file : List ℕ) (s : Shard) (f : Finding) → IsFound file f s → IsInRanges f s
+in_ranges file s Holds is =
+    let r : RecordingParts = is.0 in
+    let lawful = is.1.is.lawful in
+    let held : IsHeld r s = is.2 in
+    let most : count_at r (last_of r) ≤ MAX_COUNT = (lawful.fit (last_of r) (omega (arith, lawful.some))).bounded in
+    let least = counts_between r lawful 0 (last_of r) (omega arith) (omega arith) in (
+      held.order,
+      omega (arith, held.within, held.last_is),
+      omega (arith, least, held.last_is, held.count_is),
+      omega (arith, most, held.count_is),
+      λ none.
+          let end : last_of r ≡ 0 = omega (arith, held.last_is, none) in
+          let first : count_at r (last_of r) ≡ count_at r 0 = ap (count_at r) end in
+          omega (arith, held.count_is, first, lawful.begins),
+    )
+in_ranges file s Fails is =
+    let r : RecordingParts = is.0 in
+    let lawful = is.1.is.lawful in
+    let failed : IsFailed r s = is.2 in
+    let k : ℕ = failed.failed in
+    let most : count_at r (last_of r) ≤ MAX_COUNT = (lawful.fit (last_of r) (omega (arith, lawful.some))).bounded in
+    let least = counts_between r lawful 0 (k + 1) (omega arith) (omega (arith, failed.within)) in
+    let after = counts_between r lawful (k + 1) (last_of r) (omega (arith, failed.within)) (omega arith) in (
+      omega (arith, failed.order, failed.to_is),
+      omega (arith, failed.within, failed.to_is, failed.last_is),
+      omega (arith, least, failed.to_is, failed.count_is),
+      omega (arith, after, most, failed.to_is, failed.last_is, failed.count_is),
+    )
+in_ranges file s Refused is = (is.from_is, is.to_is, is.last_is)
+
+line_is : (file : List ℕ) (s : Shard) (f : Finding) → IsFound file f s → HasLine f s.to s.last s.count s.line.items
+line_is file s Holds is = rw (is.2.last_is, is.2.count_is) is.2.line_is
+line_is file s Fails is =
+    let r : RecordingParts = is.0 in
+    let failed : IsFailed r s = is.2 in (
+      failed.part,
+      part_inside (claimed r (failed.failed + 1)) (replayed r failed.failed) failed.part failed.fails,
+      rw (failed.to_is, failed.count_is) failed.line_is,
+    )
+line_is file s Refused is =
+    let named : IsNamedFault is.fault = subst (λ (o : Option Fault). IfSome o IsNamedFault) is.is_first (fault_named file) in
+    (is.fault, named, sym is.count_is, is.line_is)
 
 pub printable : (file : List ℕ) (s : Shard) → IsShardOf file s → IsPrintable s
-printable file s is =
-    let r = ranges file s s.finding is.found in record {
-      digest_length = ap length is.digest_is ∙ length-sha256 file;
-      digest_bytes = subst IsBytes (sym is.digest_is) (sha256_bytes file);
-      from_fits = r.from_fits;
-      to_fits = r.to_fits;
-      last_fits = r.last_fits;
-      line = r.line;
-    }
+printable file s is = record {
+  digest_length = ap length is.digest_is ∙ length-sha256 file;
+  digest_bytes = subst IsBytes (sym is.digest_is) (sha256_bytes file);
+  few = few file s s.finding is.found;
+  count_fits = is.count_fits;
+  in_ranges = in_ranges file s s.finding is.found;
+  line = line_is file s s.finding is.found;
+}
 
 -- shards with the same parts are of the same files
 found_same : (file : List ℕ) (s t : Shard) (f : Finding) → IsSame s t → IsFound file f s → IsFound file f t
@@ -157,6 +113,7 @@ found_same file s t Holds same is = (
     order = rw (same.from_is, same.to_is) is.2.order;
     within = rw same.to_is is.2.within;
     last_is = same.last_is ∙ is.2.last_is;
+    count_is = same.count_is ∙ is.2.count_is;
     hold = rw (same.from_is, same.to_is) is.2.hold;
     line_is = same.line_is ∙ is.2.line_is;
   },
@@ -171,6 +128,7 @@ found_same file s t Fails same is = (
     to_is = same.to_is ∙ is.2.to_is;
     within = is.2.within;
     last_is = same.last_is ∙ is.2.last_is;
+    count_is = same.count_is ∙ is.2.count_is;
     hold = rw same.from_is is.2.hold;
     fails = is.2.fails;
     line_is = same.line_is ∙ is.2.line_is;
@@ -182,6 +140,7 @@ found_same file s t Refused same is = record {
   from_is = same.from_is ∙ is.from_is;
   to_is = same.to_is ∙ is.to_is;
   last_is = same.last_is ∙ is.last_is;
+  count_is = same.count_is ∙ is.count_is;
   line_is = same.line_is ∙ is.line_is;
 }
 
@@ -189,5 +148,6 @@ pub same_shard : (file : List ℕ) (s t : Shard) → IsSame s t → IsShardOf fi
 same_shard file s t same is = record {
   are_bytes = is.are_bytes;
   digest_is = same.digest_is ∙ is.digest_is;
+  count_fits = rw same.count_is is.count_fits;
   found = subst (λ (f : Finding). IsFound file f t) (sym same.finding_is) (found_same file s t s.finding same is.found);
 }

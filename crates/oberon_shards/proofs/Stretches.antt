@@ -42,7 +42,8 @@ pub faulty_shard : (bytes digest : List ℕ) (fault : Fault) → AreBytes bytes 
 faulty_shard bytes digest fault are named first s is = record {
   are_bytes = are;
   digest_is = is.digest_is ∙ named;
-  found = subst (λ (f : Finding). IsFound bytes f s) (sym is.finding_is) (record { fault = fault; is_first = first; from_is = is.from_is; to_is = is.to_is; last_is = is.last_is; line_is = is.line_is });
+  count_fits = is.count_fits;
+  found = subst (λ (f : Finding). IsFound bytes f s) (sym is.finding_is) (record { fault = fault; is_first = first; from_is = is.from_is; to_is = is.to_is; last_is = is.last_is; count_is = is.count_is; line_is = is.line_is });
 }
 
 found_in : (bytes : List ℕ) (r : RecordingParts) → Text bytes r → (s : Shard) (f : Finding) → IsFoundIn r f s → IsFound bytes f s
@@ -53,4 +54,4 @@ found_in bytes r text s Refused is = absurd is
 pub stretch_shard : (bytes digest : List ℕ) (r : RecordingParts) → AreBytes bytes → digest ≡ sha256 bytes → Text bytes r → (from end : ℕ) (s : Shard)
     → IsStretch r digest from end s → IsShardOf bytes s
 stretch_shard bytes digest r are named text from end s is =
-    record { are_bytes = are; digest_is = is.digest_is ∙ named; found = found_in bytes r text s s.finding is.found }
+    record { are_bytes = are; digest_is = is.digest_is ∙ named; count_fits = is.count_fits; found = found_in bytes r text s s.finding is.found }

@@ -5,8 +5,8 @@ use Rattle.std.proofs.lemmas.List.{append_assoc, flat_map_more}
 use Rattle.std.proofs.lemmas.List.Elements.{All-head, All-push, All-tail}
 use Rattle.oberon_shards.specs.declared.shard.Shard.{Shard}
 use Rattle.oberon_shards.specs.Shard.{IsShardOf, shard_line}
-use Rattle.oberon_shards.specs.Lines.{AreLinesOf, shard_lines}
-use Rattle.oberon_shards.specs.inner.Reading.{HasNoShard, IsNext, IsReadTo}
+use Rattle.oberon_shards.specs.Lines.{AreLinesOf, HasNoShard, IsPrintable, shard_lines}
+use Rattle.oberon_shards.specs.inner.Reading.{IsNext, IsReadTo}
 use Rattle.oberon_shards.proofs.Printed.{printable, same_shard}
 
 -- the first of these lines, and the rest of them
@@ -25,6 +25,7 @@ read_more text shards rest shard more is next some =
     record {
       lines_are = is.lines_are ∙ ap (λ (x : List ℕ). shard_lines shards ++ x) next.begins ∙ sym (append_assoc (shard_lines shards) (shard_line shard) more)
           ∙ ap (λ (x : List ℕ). x ++ more) last;
+      printable = All-push IsPrintable shards shard is.printable next.printable;
       are = λ file of.
           let both = is.are file of in
           let first = first_line file rest shard more next some both.1.shards both.1.are both.1.lines_are in

@@ -9,8 +9,8 @@ use Rattle.oberon_shards.specs.declared.fault.TheConstants.{LONGEST_SHARDS}
 use Rattle.oberon_shards.specs.Shard.{finding_status, shard_line}
 use Rattle.oberon_shards.specs.Border.{IsIndexed}
 use Rattle.oberon_shards.specs.Shard.{IsShardOf}
-use Rattle.oberon_shards.specs.Lines.{AreLinesOf, shard_lines}
-use Rattle.oberon_shards.specs.Combining.{IsCombineFault, IsOneOf}
+use Rattle.oberon_shards.specs.Lines.{AreLinesOf, HasNoShard, IsPrintable, shard_lines}
+use Rattle.oberon_shards.specs.Combining.{AllAgree, IsCombineFault, IsOneOf}
 
 -- the line of shard `index` of `of` of these bytes. The status is 0 whatever was found: the line says it
 pub record IsShardReport (bytes : List ℕ) (index of : ℕ) (line : List ℕ) (status : ℕ) : Type 0 where
@@ -20,12 +20,14 @@ pub record IsShardReport (bytes : List ℕ) (index of : ℕ) (line : List ℕ) (
   pub line_is : line ≡ shard_line shard
   pub status_is : status ≡ 0
 
--- the text has lines of shards, and one of them decides: if the lines are those of shards of a file, in whatever order, by whichever
+-- the text has lines that the program can print, of which no two contradict each other, and one of them decides: if the lines are those of shards of a file, in whatever order, by whichever
 -- machines and however divided, then the line and the status are those of a check of this file
 pub record IsCombined (text line : List ℕ) (status : ℕ) : Type 0 where
   pub short : length text ≤ LONGEST_SHARDS
   pub shards : List Shard
+  pub printable : All IsPrintable shards
   pub lines_are : text ≡ shard_lines shards
+  pub agree : AllAgree shards
   pub shard : Shard
   pub is_one : IsOneOf shards shard
   pub one_file : All (λ s. s.digest ≡ shard.digest) shards
@@ -33,17 +35,20 @@ pub record IsCombined (text line : List ℕ) (status : ℕ) : Type 0 where
   pub line_is : line ≡ shard.line.items
   pub status_is : status ≡ finding_status shard.finding
 
--- the lines before this one are those of shards, and this one is not: so no file has these lines
+-- the program can print the lines before this one, and cannot print this one: so no file has these lines
 pub record IsBroken (text : List ℕ) (line : ℕ) : Type 0 where
   pub shards : List Shard
+  pub printable : All IsPrintable shards
   pub rest : List ℕ
   pub lines_are : text ≡ shard_lines shards ++ rest
   pub line_is : line ≡ length shards + 1
+  pub broken : HasNoShard rest
   pub none : (file : List ℕ) → ¬ (AreLinesOf file text)
 
--- the text has lines of shards, which have this fault
+-- the text has lines that the program can print, whose shards have this fault
 pub record AreFaulty (text : List ℕ) (fault : CombineFault) : Type 0 where
   pub shards : List Shard
+  pub printable : All IsPrintable shards
   pub lines_are : text ≡ shard_lines shards
   pub is_fault : IsCombineFault shards fault
 

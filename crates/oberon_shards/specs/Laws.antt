@@ -3,11 +3,17 @@ use Rattle.std.specs.Prelude.{ℕ, ◌≡◌, ◌<◌, ◌≤◌, List, All, len
 use Rattle.sha2.specs.Sha256.{sha256}
 use Rattle.oberon_format.specs.Recording.{RecordingParts}
 use Rattle.oberon_format.specs.Text.{Text}
+use Rattle.oberon_shards.specs.declared.border.TheConstants.{MAX_SHARDS}
+use Rattle.oberon_shards.specs.declared.fault.TheConstants.{LONGEST_SHARDS}
 use Rattle.oberon_shards.specs.declared.shard.Shard.{Shard}
 use Rattle.oberon_shards.specs.Border.{IsBetween}
 use Rattle.oberon_shards.specs.Combining.{IsOneOf, IsMissing}
 use Rattle.oberon_shards.specs.Lines.{IsPrintable, IsSame}
 use Rattle.oberon_shards.specs.Shard.{IsShardOf, shard_line}
+
+-- the limits by their values, so that a mistyped one cannot change a contract unnoticed
+abbrev pub HasShardLimits : Type 0
+HasShardLimits = (MAX_SHARDS ≡ 4096) × (LONGEST_SHARDS ≡ 4194304)
 
 -- one of the shards is shard `index` of `of` of the recording
 abbrev pub HasIndexed : RecordingParts → List Shard → ℕ → ℕ → Type 0

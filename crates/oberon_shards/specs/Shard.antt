@@ -1,9 +1,11 @@
 -- What is known of a shard of a check: a stretch of a recording's segments was replayed. This project's own choice.
-use Rattle.std.specs.Prelude.{ℕ, ◌≡◌, ◌+◌, ◌<◌, ◌≤◌, List, ◌++◌, None, Some, codes}
+use Rattle.std.specs.Prelude.{ℕ, ◌≡◌, ◌+◌, ◌<◌, ◌≤◌, ◌^◌, List, ◌++◌, None, Some, codes}
 use Rattle.std.specs.Fmt.{decimal}
 use Rattle.sha2.specs.Sha256.{sha256}
 use Rattle.hex.specs.Hex.{encode_lower}
 use Rattle.oberon_format.specs.declared.fault.Fault.{Fault}
+use Rattle.oberon_format.specs.declared.fault.Fault.TheVariants.{Short, Magic, Version, Limit, Event, Checkpoint, Page, Trailing}
+use Rattle.oberon_format.specs.declared.fault.Fault.TheVariants.{Memory}
 use Rattle.oberon_format.specs.Recording.{RecordingParts, count_at, last_of}
 use Rattle.oberon_format.specs.Text.{AreBytes, Text}
 use Rattle.oberon_format.specs.ByteFields.{first_fault_of}
@@ -25,6 +27,7 @@ pub record IsHeld (r : RecordingParts) (s : Shard) : Type 0 where
   pub order : s.from ≤ s.to
   pub within : s.to ≤ last_of r
   pub last_is : s.last ≡ last_of r
+  pub count_is : s.count ≡ count_at r (last_of r)
   pub hold : Hold r s.from s.to
   pub line_is : s.line.items ≡ line_of (Accepted (last_of r) (count_at r (last_of r)))
 
@@ -37,9 +40,22 @@ pub record IsFailed (r : RecordingParts) (s : Shard) : Type 0 where
   pub to_is : s.to ≡ failed + 1
   pub within : failed < last_of r
   pub last_is : s.last ≡ last_of r
+  pub count_is : s.count ≡ count_at r (failed + 1)
   pub hold : Hold r s.from failed
   pub fails : IsSegmentPart r failed (Some part)
   pub line_is : s.line.items ≡ line_of (FalseAt (failed + 1) (count_at r (failed + 1)) part)
+
+-- the byte of a fault
+abbrev pub byte_of : Fault → ℕ
+byte_of (Short byte) = byte
+byte_of (Magic byte) = byte
+byte_of (Version byte) = byte
+byte_of (Limit byte) = byte
+byte_of (Event byte) = byte
+byte_of (Checkpoint byte) = byte
+byte_of (Page byte) = byte
+byte_of (Trailing byte) = byte
+byte_of Memory = 0
 
 -- the bytes have a first fault, the line is that of the fault, and there are no segments
 pub record IsFaulty (bytes : List ℕ) (s : Shard) : Type 0 where
@@ -48,6 +64,7 @@ pub record IsFaulty (bytes : List ℕ) (s : Shard) : Type 0 where
   pub from_is : s.from ≡ 0
   pub to_is : s.to ≡ 0
   pub last_is : s.last ≡ 0
+  pub count_is : s.count ≡ byte_of fault
   pub line_is : s.line.items ≡ fault_line fault
 
 -- what was found in the recording of the bytes, or of the bytes themselves
@@ -60,6 +77,7 @@ IsFound bytes Refused s = IsFaulty bytes s
 pub record IsShardOf (bytes : List ℕ) (s : Shard) : Type 0 where
   pub are_bytes : AreBytes bytes
   pub digest_is : s.digest ≡ sha256 bytes
+  pub count_fits : s.count < 2 ^ 64
   pub found : IsFound bytes s.finding s
 
 -- the exit status of a check that this finding decides: 0 holds, 1 fails, 2 refused

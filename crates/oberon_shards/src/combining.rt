@@ -1,15 +1,13 @@
 //! The line of a recording from its shards.
-ghost use Rattle.std.specs.Prelude.{◌≡◌, ◌<◌, ◌≤◌, ℕ, All, IfErr, IfOk, IsTrue, MatchOption};
-ghost use Rattle.oberon_shards.specs.Combining.{AreApart, Decides, IsCombineFault, IsContradiction, IsCovered, IsOneOf};
-ghost use Rattle.oberon_shards.specs.inner.Walking.{IsAt, IsEnd, IsGap, IsGapEnd, IsOneWith, IsStranger};
+ghost use Rattle.std.specs.Prelude.{◌≡◌, ◌<◌, ◌≤◌, ◌↔◌, ℕ, All, IfErr, IfOk, IsTrue, MatchOption, length};
+ghost use Rattle.oberon_shards.specs.Combining.{Agree, AgreeAs, AllAgree, AreApart, Decides, IsCombineFault, IsContradiction, IsCovered, IsOneOf, Rise};
+ghost use Rattle.oberon_shards.specs.inner.Walking.{AgreesWithAll, IsAt, IsEnd, IsGap, IsGapEnd, IsOneWith, IsStranger};
 ghost use Rattle.oberon_shards.specs.declared.shard.Finding.{Finding};
 
 use crate::fault::CombineFault;
 use crate::shard::{Finding, Shard};
-use oberon_format::{LAST_CHECKPOINT, file_or_fault_law, one_recording_law};
+use oberon_format::{file_or_fault_law, one_recording_law};
 
-/// The most segments of a recording.
-const MAX_SEGMENTS: usize = LAST_CHECKPOINT as usize;
 /// No shard has this index.
 const NO_SHARD: usize = usize::MAX;
 
@@ -49,10 +47,21 @@ fn stranger(shards: &[Shard], digest: &[u8; 32]) -> Option<usize>
     None
 }
 
-/// Returns whether two shards contradict each other: they have different numbers of segments, lines that can't both be true, or the last
-/// segment of the first, which fails, is one that holds by the second.
+/// Returns whether the second of two checkpoints, which is not before the first, can have its count: each is at least one more than that
+/// of the checkpoint before.
+fn rise(at: u32, count: u64, other_at: u32, other_count: u64) -> bool
+    ensures { IsTrue result ↔ Rise at count other_at other_count }
+{
+    if at == other_at && count != other_count {
+        return false;
+    }
+    count <= other_count && other_at.saturating_sub(at) as u64 <= other_count - count
+}
+
+/// Returns whether two shards contradict each other, in this order.
 fn contradict(a: &Shard, b: &Shard) -> bool
-    ensures { IsTrue result → AreApart a.now b.now }
+    ensures apart { IsTrue result → AreApart a.now b.now }
+    ensures agree { ¬ (IsTrue result) → Agree a.now b.now }
 {
     one_recording_law();
     file_or_fault_law();
@@ -66,7 +75,7 @@ fn contradict(a: &Shard, b: &Shard) -> bool
             Finding::Refused => true,
         },
         Finding::Fails => match b.finding {
-            Finding::Holds => b.from < a.to && a.to <= b.to,
+            Finding::Holds => fails_there(a, b),
             Finding::Fails => fail_apart(a, b),
             Finding::Refused => true,
         },
@@ -77,94 +86,71 @@ fn contradict(a: &Shard, b: &Shard) -> bool
     }
 }
 
-/// Returns whether two shards that fail contradict each other.
+/// Returns whether a shard that fails contradicts one that holds: the segment that fails is one of those that hold, or the last count is
+/// too low.
+fn fails_there(a: &Shard, b: &Shard) -> bool
+    requires a { a.now.finding ≡ Finding.Fails }
+    requires b { b.now.finding ≡ Finding.Holds }
+    requires last { a.now.last ≡ b.now.last }
+    ensures apart { IsTrue result → AreApart a.now b.now }
+    ensures agree { ¬ (IsTrue result) → AgreeAs Finding.Fails Finding.Holds a.now b.now }
+{
+    one_recording_law();
+    if b.from < a.to && a.to <= b.to {
+        return true;
+    }
+    !rise(a.to, a.count, b.last, b.count)
+}
+
+/// Returns whether two shards that fail contradict each other, in this order.
 fn fail_apart(a: &Shard, b: &Shard) -> bool
     requires a { a.now.finding ≡ Finding.Fails }
     requires b { b.now.finding ≡ Finding.Fails }
-    ensures { IsTrue result → AreApart a.now b.now }
+    ensures apart { IsTrue result → AreApart a.now b.now }
+    ensures agree { ¬ (IsTrue result) → AgreeAs Finding.Fails Finding.Fails a.now b.now }
 {
     one_recording_law();
     if a.to == b.to {
         return a.line != b.line;
     }
-    b.from < a.to && a.to < b.to
+    if b.to < a.to {
+        return false;
+    }
+    if b.from < a.to {
+        return true;
+    }
+    !rise(a.to, a.count, b.to, b.count)
 }
 
-/// Returns two indices, in the order in which their shards contradict each other, if both are there and they do.
-fn apart(shards: &[Shard], one: usize, other: usize) -> Option<(usize, usize)>
-    ensures { MatchOption result (Unit {0}) (λ p. IsContradiction shards.now p.0 p.1) }
+/// Returns the index of the first shard that one contradicts.
+fn opponent(shards: &[Shard], one: usize) -> Option<usize>
+    requires { one < length shards.now }
+    ensures { MatchOption result (AgreesWithAll shards.now one) (IsContradiction shards.now one) }
 {
-    if one >= shards.len() || other >= shards.len() {
-        return None;
-    }
-    if contradict(&shards[one], &shards[other]) {
-        return Some((one, other));
-    }
-    if contradict(&shards[other], &shards[one]) {
-        return Some((other, one));
+    for other in 0..shards.len() {
+        if contradict(&shards[one], &shards[other]) {
+            return Some(other);
+        }
     }
     None
 }
 
-/// The indices of the shards that were looked at: the latest one in which a segment holds, and the latest in which it fails.
-#[derive(Drop)]
-struct LookedAt {
-    holding: [usize; MAX_SEGMENTS],
-    failing: [usize; MAX_SEGMENTS],
-}
-
-impl LookedAt {
-    ghost use Rattle.std.specs.Prelude.{◌<◌, MatchOption, length};
-    ghost use Rattle.oberon_shards.specs.Combining.{IsContradiction};
-
-    /// Looks at a shard. Returns two that contradict each other, if it and one that was looked at before have a segment on which they do.
-    fn look(&mut self, shards: &[Shard], k: usize) -> Option<(usize, usize)>
-        requires inside { k < length shards.now }
-        ensures { MatchOption result (Unit {0}) (λ p. IsContradiction shards.now p.0 p.1) }
-    {
-        let shard = &shards[k];
-        for segment in shard.from..shard.to.min(LAST_CHECKPOINT) {
-            let at = segment as usize;
-            if let Some(pair) = apart(shards, self.failing[at], k) {
-                return Some(pair);
-            }
-            if shard.finding == Finding::Fails && segment + 1 == shard.to {
-                if let Some(pair) = apart(shards, self.holding[at], k) {
-                    return Some(pair);
-                }
-                self.failing[at] = k;
-            } else {
-                self.holding[at] = k;
-            }
-        }
-        None
-    }
-}
-
 /// Returns the indices of two shards that contradict each other.
 ///
-/// Each shard is compared with the first, with the first that holds, and with one for each of its segments: so the time grows with the
-/// lines and their segments, and not with the pairs of lines.
+/// The first shard that does not fail stands for all others that do not: they say the same. So only failures cost a comparison with each.
 fn contradiction(shards: &[Shard]) -> Option<(usize, usize)>
-    ensures { MatchOption result (Unit {0}) (λ p. IsContradiction shards.now p.0 p.1) }
+    ensures { MatchOption result (AllAgree shards.now) (λ p. IsContradiction shards.now p.0 p.1) }
 {
-    let mut looked_at = LookedAt {
-        holding: [NO_SHARD; MAX_SEGMENTS],
-        failing: [NO_SHARD; MAX_SEGMENTS],
-    };
-    let mut first_holding = NO_SHARD;
-    for k in 0..shards.len() {
-        if let Some(pair) = apart(shards, 0, k) {
-            return Some(pair);
-        }
-        if shards[k].finding == Finding::Holds {
-            if let Some(pair) = apart(shards, first_holding, k) {
-                return Some(pair);
+    let mut like = NO_SHARD;
+    for one in 0..shards.len() {
+        let fails = shards[one].finding == Finding::Fails;
+        if fails || like == NO_SHARD {
+            if let Some(other) = opponent(shards, one) {
+                return Some((one, other));
             }
-            first_holding = first_holding.min(k);
-        }
-        if let Some(pair) = looked_at.look(shards, k) {
-            return Some(pair);
+            if !fails {
+                like = one;
+            }
         }
     }
     None
@@ -210,6 +196,7 @@ pub fn combine<'a>(shards: &'a [Shard]) -> Result<&'a Shard, CombineFault>
     ensures one { IfOk result (λ s. IsOneOf shards.now s.now) }
     ensures line { IfOk result (λ s. Decides shards.now s.now) }
     ensures one_file { IfOk result (λ s. All (λ t. t.digest ≡ s.now.digest) shards.now) }
+    ensures agree { IfOk result (λ s. AllAgree shards.now) }
     ensures fault { IfErr result (IsCombineFault shards.now) }
 {
     one_recording_law();

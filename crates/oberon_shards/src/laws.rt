@@ -1,7 +1,12 @@
 //! The laws of this crate's definitions, each the contract of a function that does nothing.
-ghost use Rattle.oberon_shards.specs.Laws.{HasOneReading, IsComplete, IsOfOneFile};
+ghost use Rattle.oberon_shards.specs.Laws.{HasOneReading, HasShardLimits, IsComplete, IsOfOneFile};
 
 use oberon_format::{file_or_fault_law, one_recording_law};
+
+/// States the limits of shards.
+pub fn shard_limits_law()
+    ensures { HasShardLimits }
+{}
 
 /// If all shards of a recording are there, none is missing.
 pub fn complete_law()

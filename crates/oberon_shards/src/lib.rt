@@ -10,13 +10,14 @@ mod fault;
 mod laws;
 mod reading;
 mod report;
+mod said;
 mod shard;
 mod sharding;
 
 pub use border::MAX_SHARDS;
 pub use combining::combine;
 pub use fault::{CombineFault, LONGEST_SHARDS};
-pub use laws::{complete_law, one_file_law, reading_law};
+pub use laws::{complete_law, one_file_law, reading_law, shard_limits_law};
 pub use report::{combine_lines, shard_line};
 pub use shard::{Finding, Shard};
 pub use sharding::check_shard;

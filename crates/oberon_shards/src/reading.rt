@@ -1,14 +1,17 @@
 //! Reading the lines of shards.
-ghost use Rattle.std.specs.Prelude.{◌≡◌, ◌<◌, ◌^◌, ◌++◌, ℕ, List, [], IfOk, MatchOption, codes, length};
+ghost use Rattle.std.specs.Prelude.{◌≡◌, ◌<◌, ◌≤◌, ◌^◌, ◌++◌, ◌↔◌, ℕ, List, [], IfOk, IsTrue, MatchOption, codes, length};
 ghost use Rattle.std.specs.Fmt.{decimal};
 ghost use Rattle.hex.specs.Hex.{IsBytes, encode_lower};
 ghost use Rattle.oberon_shards.specs.Shard.{finding_word};
-ghost use Rattle.oberon_shards.specs.inner.Reading.{HasNoShard, IsCut, IsFirstOf, IsNext, IsRead};
+ghost use Rattle.oberon_shards.specs.Lines.{HasNoShard, IsInRanges};
+ghost use Rattle.oberon_shards.specs.inner.Reading.{AreRead, IsCut, IsNext, IsRead};
 ghost use Rattle.oberon_shards.specs.declared.shard.Finding.{Finding};
 
+use crate::said::said_in;
 use crate::shard::{Finding, Shard};
 use hex::FromHex;
 use memchr::memchr;
+use oberon_format::{LAST_CHECKPOINT, MAX_COUNT};
 use std::alloc::{AllocError, Global};
 use std::str;
 
@@ -19,7 +22,7 @@ pub(crate) fn read_shards<'a>(
     shards: &mut Vec<Shard>,
 ) -> Result<&'a [u8], AllocError>
     requires { shards.old.items ≡ [] }
-    ensures { IfOk result (λ rest. IsRead text.now shards.new.items rest.now) }
+    ensures { IfOk result (λ rest. AreRead text.now shards.new.items rest.now) }
 {
     let mut rest = text;
     while !rest.is_empty() {
@@ -35,11 +38,14 @@ pub(crate) fn read_shards<'a>(
 }
 
 /// Reads the shard whose line is the first of a text, and returns it with the rest of the text; or `None` if that line is not a
-/// shard's. The line is read loosely, printed again and compared.
+/// shard's. The line is read loosely, printed again and compared, and its numbers have to be in their ranges.
 fn next_shard<'a>(alloc: Global, text: &'a [u8]) -> Result<Option<(Shard, &'a [u8])>, AllocError>
     ensures { IfOk result (λ found. MatchOption found (HasNoShard text.now) (λ p. IsNext text.now p.0 p.1.now)) }
 {
     let shard = first_shard(alloc, text)?;
+    if !is_in_ranges(&shard) {
+        return Ok(None);
+    }
     let line = shard.text(alloc)?;
     match text.strip_prefix(&line[..]) {
         Some(rest) => Ok(Some((shard, rest))),
@@ -49,7 +55,7 @@ fn next_shard<'a>(alloc: Global, text: &'a [u8]) -> Result<Option<(Shard, &'a [u
 
 /// Reads the first line of a text as that of a shard, whatever it is.
 fn first_shard(alloc: Global, text: &[u8]) -> Result<Shard, AllocError>
-    ensures { IfOk result (λ shard. IsFirstOf text.now shard) }
+    ensures { IfOk result (IsRead text.now) }
 {
     let (_, rest) = cut(text, b' ');
     let (digest, rest) = cut(rest, b' ');
@@ -57,19 +63,48 @@ fn first_shard(alloc: Global, text: &[u8]) -> Result<Shard, AllocError>
     let (to, rest) = cut(rest, b' ');
     let (last, rest) = cut(rest, b' ');
     let (finding, rest) = cut(rest, b' ');
-    let (line, _) = cut(rest, b'\n');
+    let to = index_in(to);
+    let last = index_in(last);
+    let finding = finding_in(finding);
+    let said = said_in(alloc, finding, to, last, rest)?;
     Ok(Shard {
         digest: digest_in(digest),
-        from: number_in(from),
-        to: number_in(to),
-        last: number_in(last),
-        finding: finding_in(finding),
-        line: ended(alloc, line)?,
+        from: index_in(from),
+        to,
+        last,
+        finding,
+        count: said.count,
+        line: said.line,
     })
 }
 
+/// Returns whether the numbers of a shard are those of some recording, or of a file that is none.
+fn is_in_ranges(shard: &Shard) -> bool
+    ensures { IsTrue result ↔ (shard.now.last ≤ LAST_CHECKPOINT) × IsInRanges shard.now.finding shard.now }
+{
+    if shard.last > LAST_CHECKPOINT {
+        return false;
+    }
+    let count = shard.count;
+    let to = shard.to as u64;
+    let last = shard.last as u64;
+    match shard.finding {
+        Finding::Holds => {
+            shard.from <= shard.to
+                && to <= last
+                && last <= count
+                && count <= MAX_COUNT
+                && (last != 0 || count == 0)
+        }
+        Finding::Fails => {
+            shard.from < shard.to && to <= last && to <= count && count <= MAX_COUNT - (last - to)
+        }
+        Finding::Refused => shard.from == 0 && shard.to == 0 && shard.last == 0,
+    }
+}
+
 /// Returns what is before and after the first such byte; without it, all is before.
-fn cut<'a>(text: &'a [u8], byte: u8) -> (&'a [u8], &'a [u8])
+pub(crate) fn cut<'a>(text: &'a [u8], byte: u8) -> (&'a [u8], &'a [u8])
     ensures { IsCut byte text.now result.0.now result.1.now }
 {
     match memchr(byte, text) {
@@ -80,7 +115,9 @@ fn cut<'a>(text: &'a [u8], byte: u8) -> (&'a [u8], &'a [u8])
 
 /// Returns the digest that a text has in hexadecimal digits; of another text, zeros.
 fn digest_in(text: &[u8]) -> [u8; 32]
-    ensures { (name : List ℕ) → length name ≡ 32 → IsBytes name → text.now ≡ encode_lower name → result ≡ name }
+    ensures name { (name : List ℕ) → length name ≡ 32 → IsBytes name → text.now ≡ encode_lower name → result ≡ name }
+    ensures length { length result ≡ 32 }
+    ensures bytes { IsBytes result }
 {
     match <[u8; 32] as FromHex>::from_hex(text) {
         Ok(name) => name,
@@ -89,15 +126,27 @@ fn digest_in(text: &[u8]) -> [u8; 32]
 }
 
 /// Returns the number that a text has in decimal digits; of another text, 0.
-fn number_in(text: &[u8]) -> u32
-    ensures { (n : ℕ) → n < 2 ^ 32 → text.now ≡ decimal n → result ≡ n }
+pub(crate) fn number_in(text: &[u8]) -> u64
+    ensures { (n : ℕ) → n < 2 ^ 64 → text.now ≡ decimal n → result ≡ n }
 {
     match str::from_utf8(text) {
-        Ok(digits) => match digits.parse::<u32>() {
+        Ok(digits) => match digits.parse::<u64>() {
             Ok(number) => number,
             Err(_) => 0,
         },
         Err(_) => 0,
+    }
+}
+
+/// Returns the number of a segment or of segments that a text has in decimal digits; of another text, any.
+fn index_in(text: &[u8]) -> u32
+    ensures { (n : ℕ) → n < 2 ^ 32 → text.now ≡ decimal n → result ≡ n }
+{
+    let number = number_in(text);
+    if number <= u32::MAX as u64 {
+        number as u32
+    } else {
+        0
     }
 }
 
@@ -112,13 +161,4 @@ fn finding_in(text: &[u8]) -> Finding
     } else {
         Finding::Refused
     }
-}
-
-/// Returns a copy of a text, ended by a line feed.
-fn ended(alloc: Global, text: &[u8]) -> Result<Vec<u8>, AllocError>
-    ensures { IfOk result (λ line. line.items ≡ text.now ++ codes "\n") }
-{
-    let mut line = Vec::from_slice(alloc, text)?;
-    line.extend_from_slice(b"\n")?;
-    Ok(line)
 }

@@ -54,6 +54,8 @@ pub struct Shard {
     pub last: u32,
     /// What was found.
     pub finding: Finding,
+    /// The count of the last checkpoint, if the shard holds; that of the false one, if it fails; or the byte of the fault.
+    pub count: u64,
     /// The line of the whole recording, if this shard decides it.
     pub line: Vec<u8>,
 }

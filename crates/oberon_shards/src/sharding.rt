@@ -2,7 +2,7 @@
 ghost use Rattle.std.specs.Prelude.{◌≡◌, ◌≢◌, ◌+◌, ◌<◌, ◌≤◌, IfOk, MatchOption};
 ghost use Rattle.oberon_format.specs.Recording.{last_of};
 ghost use Rattle.oberon_shards.specs.Border.{IsIndexed};
-ghost use Rattle.oberon_shards.specs.Shard.{Hold, IsShardOf};
+ghost use Rattle.oberon_shards.specs.Shard.{Hold, IsShardOf, byte_of};
 ghost use Rattle.oberon_shards.specs.inner.Stretch.{IsFirstFailed, IsStretch, IsFault};
 
 use crate::border::{MAX_SHARDS, border};
@@ -48,9 +48,10 @@ fn stretch(
     let last = r.count() - 1;
     match first_failed(alloc, r, from, end)? {
         None => {
+            let count = r.checkpoint(last).count;
             let verdict = Verdict::Accepted {
                 checkpoints: last,
-                steps: r.checkpoint(last).count,
+                steps: count,
             };
             Ok(Shard {
                 digest,
@@ -58,14 +59,16 @@ fn stretch(
                 to: end,
                 last,
                 finding: Finding::Holds,
+                count,
                 line: verdict.line(alloc)?,
             })
         }
         Some((segment, part)) => {
             let to = segment + 1;
+            let count = r.checkpoint(to).count;
             let verdict = Verdict::FalseAt {
                 checkpoint: to,
-                count: r.checkpoint(to).count,
+                count,
                 part,
             };
             Ok(Shard {
@@ -74,6 +77,7 @@ fn stretch(
                 to,
                 last,
                 finding: Finding::Fails,
+                count,
                 line: verdict.line(alloc)?,
             })
         }
@@ -110,6 +114,24 @@ fn faulty(alloc: Global, digest: [u8; 32], fault: &Fault) -> Result<Shard, Alloc
         to: 0,
         last: 0,
         finding: Finding::Refused,
+        count: byte_of(fault),
         line: refusal(alloc, fault)?,
     })
+}
+
+/// Returns the byte of a fault.
+fn byte_of(fault: &Fault) -> u64
+    ensures { result ≡ byte_of fault.now }
+{
+    match *fault {
+        Fault::Short(byte) => byte,
+        Fault::Magic(byte) => byte,
+        Fault::Version(byte) => byte,
+        Fault::Limit(byte) => byte,
+        Fault::Event(byte) => byte,
+        Fault::Checkpoint(byte) => byte,
+        Fault::Page(byte) => byte,
+        Fault::Trailing(byte) => byte,
+        Fault::Memory => 0,
+    }
 }

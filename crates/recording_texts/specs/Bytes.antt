@@ -1,5 +1,5 @@
 -- Numbers as the bytes of a file, lowest byte first, as docs/formats.md defines them.
-use Rattle.std.specs.Prelude.{ℕ, zero, suc, List, [], ◌∷◌, ◌++◌, ◌+◌, min, slice_index_or, slice_set}
+use Rattle.std.specs.Prelude.{ℕ, zero, suc, List, [], ◌∷◌, ◌++◌, min, slice_index_or, slice_set}
 use Rattle.std.specs.Int.{w32, w64, to_le_bytes}
 use Rattle.std.specs.List.{flat_map, fold}
 
@@ -27,9 +27,3 @@ padded numbers (suc n) = padded numbers n ++ slice_index_or numbers n 0 ∷ []
 -- each number at its index, if there is such an index; of two at one index the later one wins
 abbrev pub set_numbers : List ℕ → List (ℕ × ℕ) → List ℕ
 set_numbers words numbers = fold (λ ws n. slice_set ws n.0 n.1) words numbers
-
--- the file with the four bytes of a number at an offset, as far as the file goes
-abbrev pub put_word : List ℕ → ℕ → ℕ → List ℕ
-put_word file at word =
-    let byte : ℕ → ℕ = λ i. slice_index_or (word_bytes word) i 0 in
-    slice_set (slice_set (slice_set (slice_set file at (byte 0)) (at + 1) (byte 1)) (at + 2) (byte 2)) (at + 3) (byte 3)

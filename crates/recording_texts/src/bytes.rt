@@ -1,7 +1,7 @@
 //! Numbers as the bytes of a file, lowest byte first.
 
-ghost use Rattle.std.specs.Prelude.{◌≡◌, ◌++◌, ◌<◌, ◌^◌, OnOk, slice_set};
-ghost use Rattle.recording_texts.specs.Bytes.{length_number, long_bytes, put_word, set_numbers, word_bytes, words_bytes};
+ghost use Rattle.std.specs.Prelude.{◌≡◌, ◌++◌, OnOk, slice_set};
+ghost use Rattle.recording_texts.specs.Bytes.{length_number, long_bytes, set_numbers, word_bytes, words_bytes};
 
 use std::alloc::AllocError;
 
@@ -33,28 +33,6 @@ pub(crate) fn number_of(length: usize) -> u32
     ensures { result ≡ length_number length }
 {
     u32::try_from(length).unwrap_or(u32::MAX)
-}
-
-/// Writes a number of four bytes at an offset, as far as the file goes.
-pub(crate) fn put_word(file: &mut [u8], at: usize, word: u32)
-    requires { at < 2 ^ 32 }
-    ensures { file.new ≡ put_word file.old at word }
-{
-    let [first, second, third, fourth] = word.to_le_bytes();
-    put(file, at, first);
-    put(file, at + 1, second);
-    put(file, at + 2, third);
-    put(file, at + 3, fourth);
-}
-
-/// Writes a byte at an offset, if there is such an offset.
-#[tactic(auto, using(crate::proofs::Lists::past))]
-fn put(file: &mut [u8], at: usize, byte: u8)
-    ensures { file.new ≡ slice_set file.old at byte }
-{
-    if at < file.len() {
-        file[at] = byte;
-    }
 }
 
 /// Sets words by their indices, if there are such indices.

@@ -9,9 +9,7 @@ mod bytes;
 mod claim;
 mod named;
 mod sketch;
-mod spot;
 
 pub use claim::{Claim, FIRST_PAGE, ZEROS};
 pub use named::{EMPTY, EQUAL_PAGES, JUMP, JUMPS, ONE_BYTE_SENT, STORED_RUN};
 pub use sketch::{Event, Sketch, header};
-pub use spot::Spot;

@@ -2,15 +2,13 @@
 
 ghost use Rattle.std.specs.Prelude.{◌≡◌, ◌++◌, ◌+◌, IfOk, OnOk, replicate, slice_index_or, take};
 ghost use Rattle.std.specs.List.{flat_map};
-ghost use Rattle.recording_texts.specs.Claims.{first_bytes, second_bytes};
+ghost use Rattle.recording_texts.specs.Claims.{first_bytes};
 ghost use Rattle.recording_texts.specs.Header.{header_bytes};
-ghost use Rattle.recording_texts.specs.Spots.{replaced_first, replaced_second};
-ghost use Rattle.recording_texts.specs.Layout.{event_bytes, first_claims, first_file, prefix_bytes, output_bytes};
-ghost use Rattle.recording_texts.specs.Layout.{page_bytes, pages_bytes, second_claims, second_file};
+ghost use Rattle.recording_texts.specs.Layout.{event_bytes, first_file, output_bytes, page_bytes};
+ghost use Rattle.recording_texts.specs.Layout.{prefix_bytes, second_claims, second_file};
 
 use crate::bytes::{number_of, push_long, push_word, push_words};
 use crate::claim::Claim;
-use crate::spot::{Spot, replace_first, replace_pages, replace_second};
 use std::alloc::{AllocError, Global};
 
 /// An input with its count.
@@ -46,57 +44,39 @@ impl<'a> Sketch<'a> {
         }
     }
 
-    /// Returns the file of version 1, in which these numbers replace the claimed ones.
+    /// Returns the file of version 1.
     #[tactic(auto, unfolding(crate::specs::Layout::first_file))]
-    pub fn first_file(&self, alloc: Global, replaced: &[(Spot, u32)]) -> Result<Vec<u8>, AllocError>
-        ensures { IfOk result (λ file. file.items ≡ first_file self.now replaced.now) }
+    pub fn first_file(&self, alloc: Global) -> Result<Vec<u8>, AllocError>
+        ensures { IfOk result (λ file. file.items ≡ first_file self.now) }
     {
-        let mut file = self.prefix(alloc, 1, replaced)?;
-        push_first_claims(alloc, &mut file, self.claims, replaced)?;
+        let mut file = self.prefix(alloc, 1)?;
+        push_first_claims(alloc, &mut file, self.claims)?;
         push_output(&mut file, self.claims)?;
         Ok(file)
     }
 
-    /// Returns the file of version 2, in which these numbers replace the claimed ones.
+    /// Returns the file of version 2.
     #[tactic(auto, unfolding(crate::specs::Layout::second_file))]
-    pub fn second_file(
-        &self,
-        alloc: Global,
-        replaced: &[(Spot, u32)],
-    ) -> Result<Vec<u8>, AllocError>
-        ensures { IfOk result (λ file. file.items ≡ second_file self.now replaced.now) }
+    pub fn second_file(&self, alloc: Global) -> Result<Vec<u8>, AllocError>
+        ensures { IfOk result (λ file. file.items ≡ second_file self.now) }
     {
-        let mut file = self.prefix(alloc, 2, replaced)?;
-        push_second_claims(alloc, &mut file, self.claims, replaced)?;
+        let mut file = self.prefix(alloc, 2)?;
+        push_second_claims(alloc, &mut file, self.claims)?;
         push_output(&mut file, self.claims)?;
         Ok(file)
     }
 
     /// Returns the header, the pages and the events.
-    fn prefix(
-        &self,
-        alloc: Global,
-        version: u32,
-        replaced: &[(Spot, u32)],
-    ) -> Result<Vec<u8>, AllocError>
-        ensures { IfOk result (λ file. file.items ≡ prefix_bytes version self.now replaced.now) }
-    {
-        let mut file = self.with_pages(alloc, version)?;
-        replace_pages(&mut file, replaced);
-        push_events(&mut file, self.events)?;
-        Ok(file)
-    }
-
-    /// Returns the header and the pages.
-    #[tactic(auto, unfolding(crate::specs::Layout::pages_bytes))]
-    fn with_pages(&self, alloc: Global, version: u32) -> Result<Vec<u8>, AllocError>
-        ensures { IfOk result (λ file. file.items ≡ pages_bytes version self.now) }
+    #[tactic(auto, unfolding(crate::specs::Layout::prefix_bytes))]
+    fn prefix(&self, alloc: Global, version: u32) -> Result<Vec<u8>, AllocError>
+        ensures { IfOk result (λ file. file.items ≡ prefix_bytes version self.now) }
     {
         let pages = number_of(self.pages.len());
         let events = number_of(self.events.len());
         let checkpoints = number_of(self.claims.len());
         let mut file = header(alloc, version, pages, events, checkpoints)?;
         push_pages(&mut file, self.pages)?;
+        push_events(&mut file, self.events)?;
         Ok(file)
     }
 }
@@ -127,21 +107,6 @@ fn word_at(words: &[u32], i: usize) -> u32
     if i < words.len() { words[i] } else { 0 }
 }
 
-/// Returns checkpoint k in version 2, after one with this table, with these numbers replaced.
-fn second_claim(
-    alloc: Global,
-    claim: &Claim,
-    before: &[u32; 1024],
-    k: usize,
-    replaced: &[(Spot, u32)],
-) -> Result<Vec<u8>, AllocError>
-    ensures { IfOk result (λ bytes. bytes.items ≡ replaced_second k replaced.now (second_bytes before.now claim.now)) }
-{
-    let mut bytes = claim.second(alloc, before)?;
-    replace_second(&mut bytes, k, replaced);
-    Ok(bytes)
-}
-
 /// Appends the events.
 fn push_events(file: &mut Vec<u8>, events: &[Event]) -> Result<(), AllocError>
     ensures { OnOk result (file.new.items ≡ file.old.items ++ flat_map event_bytes events.now) }
@@ -169,50 +134,31 @@ fn push_output(file: &mut Vec<u8>, claims: &[Claim]) -> Result<(), AllocError>
     Ok(())
 }
 
-/// Appends the checkpoints in version 1, with these numbers replaced.
-#[tactic(auto, using(crate::proofs::Encoded::one_first_more))]
-fn push_first_claims(
-    alloc: Global,
-    file: &mut Vec<u8>,
-    claims: &[Claim],
-    replaced: &[(Spot, u32)],
-) -> Result<(), AllocError>
-    ensures { OnOk result (file.new.items ≡ file.old.items ++ first_claims replaced.now 0 claims.now) }
+/// Appends the checkpoints in version 1.
+fn push_first_claims(alloc: Global, file: &mut Vec<u8>, claims: &[Claim]) -> Result<(), AllocError>
+    ensures { OnOk result (file.new.items ≡ file.old.items ++ flat_map first_bytes claims.now) }
 {
-    for k in 0..claims.len() {
-        let mut bytes = first_claim(alloc, &claims[k], k, replaced)?;
-        file.append(&mut bytes)?;
+    for claim in claims {
+        push_first_claim(alloc, file, claim)?;
     }
     Ok(())
 }
 
-/// Returns checkpoint k in version 1, with these numbers replaced.
-fn first_claim(
-    alloc: Global,
-    claim: &Claim,
-    k: usize,
-    replaced: &[(Spot, u32)],
-) -> Result<Vec<u8>, AllocError>
-    ensures { IfOk result (λ bytes. bytes.items ≡ replaced_first k replaced.now (first_bytes claim.now)) }
+fn push_first_claim(alloc: Global, file: &mut Vec<u8>, claim: &Claim) -> Result<(), AllocError>
+    ensures { OnOk result (file.new.items ≡ file.old.items ++ first_bytes claim.now) }
 {
     let mut bytes = claim.first(alloc)?;
-    replace_first(&mut bytes, k, replaced);
-    Ok(bytes)
+    file.append(&mut bytes)
 }
 
-/// Appends the checkpoints in version 2, with these numbers replaced.
+/// Appends the checkpoints in version 2.
 #[tactic(auto, using(crate::proofs::Encoded::one_second_more, crate::proofs::Encoded::table_of_one_more))]
-fn push_second_claims(
-    alloc: Global,
-    file: &mut Vec<u8>,
-    claims: &[Claim],
-    replaced: &[(Spot, u32)],
-) -> Result<(), AllocError>
-    ensures { OnOk result (file.new.items ≡ file.old.items ++ second_claims replaced.now 0 (replicate 1024 0) claims.now) }
+fn push_second_claims(alloc: Global, file: &mut Vec<u8>, claims: &[Claim]) -> Result<(), AllocError>
+    ensures { OnOk result (file.new.items ≡ file.old.items ++ second_claims (replicate 1024 0) claims.now) }
 {
     let mut before = [0; 1024];
     for k in 0..claims.len() {
-        let mut bytes = second_claim(alloc, &claims[k], &before, k, replaced)?;
+        let mut bytes = claims[k].second(alloc, &before)?;
         file.append(&mut bytes)?;
         before = claims[k].page_ids();
     }

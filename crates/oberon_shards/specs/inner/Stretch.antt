@@ -1,5 +1,5 @@
 -- The replay of a stretch of segments.
-use Rattle.std.specs.Prelude.{ℕ, ◌≡◌, ◌<◌, ◌≤◌, List, Option, Some, MatchOption}
+use Rattle.std.specs.Prelude.{ℕ, ◌≡◌, ◌<◌, ◌≤◌, ◌^◌, List, Option, Some, MatchOption}
 use Rattle.oberon_format.specs.declared.fault.Fault.{Fault}
 use Rattle.oberon_format.specs.Recording.{RecordingParts}
 use Rattle.oberon_format.specs.Line.{fault_line}
@@ -8,7 +8,7 @@ use Rattle.oberon_check.specs.Segment.{IsSegmentPart}
 use Rattle.oberon_shards.specs.declared.shard.Shard.{Shard}
 use Rattle.oberon_shards.specs.declared.shard.Finding.{Finding}
 use Rattle.oberon_shards.specs.declared.shard.Finding.TheVariants.{Holds, Fails, Refused}
-use Rattle.oberon_shards.specs.Shard.{Hold, IsHeld, IsFailed}
+use Rattle.oberon_shards.specs.Shard.{Hold, IsHeld, IsFailed, byte_of}
 
 -- this is the first segment of the stretch that fails, with its part
 pub record IsFailedAt (r : RecordingParts) (from end : ℕ) (f : ℕ × Part) : Type 0 where
@@ -31,6 +31,7 @@ IsFoundIn r Refused s = ⊥
 pub record IsStretch (r : RecordingParts) (digest : List ℕ) (from end : ℕ) (s : Shard) : Type 0 where
   pub digest_is : s.digest ≡ digest
   pub from_is : s.from ≡ from
+  pub count_fits : s.count < 2 ^ 64
   pub to_end : s.to ≤ end
   pub to_is : s.finding ≡ Holds → s.to ≡ end
   pub found : IsFoundIn r s.finding s
@@ -42,4 +43,6 @@ pub record IsFault (digest : List ℕ) (fault : Fault) (s : Shard) : Type 0 wher
   pub from_is : s.from ≡ 0
   pub to_is : s.to ≡ 0
   pub last_is : s.last ≡ 0
+  pub count_is : s.count ≡ byte_of fault
+  pub count_fits : s.count < 2 ^ 64
   pub line_is : s.line.items ≡ fault_line fault

@@ -1,9 +1,9 @@
 -- The walk from shard to shard.
-use Rattle.std.specs.Prelude.{ℕ, ◌≡◌, ◌<◌, ◌≤◌, List, All, Bool, IsTrue, Option, MatchOption, length, slice_index_or}
+use Rattle.std.specs.Prelude.{ℕ, ◌≡◌, ◌+◌, ◌<◌, ◌≤◌, List, All, Option, MatchOption, length, slice_index_or}
 use Rattle.oberon_shards.specs.declared.shard.Shard.{Shard}
 use Rattle.oberon_shards.specs.declared.shard.Finding.{Finding}
 use Rattle.oberon_shards.specs.declared.shard.Finding.TheVariants.{Holds}
-use Rattle.oberon_shards.specs.Combining.{AreApart, IsOneOf, IsCovered}
+use Rattle.oberon_shards.specs.Combining.{Agree, HasSegment, IsOneOf, IsCovered}
 
 -- a member that has this segment
 pub record IsAt (shards : List Shard) (segment : ℕ) (s : Shard) : Type 0 where
@@ -38,12 +38,13 @@ pub record IsStranger (shards : List Shard) (digest : List ℕ) (k : ℕ) : Type
   pub inside : k < length shards
   pub other : (s : Shard) → s ≡ slice_index_or shards k s → ¬ (s.digest ≡ digest)
 
--- a shard that begins after the gap begins after its end
+-- a shard that begins after the gap begins after its end, and one has the segment after it, unless that is the end of all
 pub record IsGapEnd (shards : List Shard) (at last end : ℕ) : Type 0 where
   pub above : at ≤ end
   pub below : end < last
   pub none : All (λ s. at < s.from → s.from < s.to → end < s.from) shards
+  pub whole : end + 1 < last → HasSegment shards (end + 1)
 
--- no file has both shards, if the test is true
-abbrev pub TellsApart : Bool → Shard → Shard → Type 0
-TellsApart test a b = IsTrue test → AreApart a b
+-- the shard at this index contradicts none, in this order
+abbrev pub AgreesWithAll : List Shard → ℕ → Type 0
+AgreesWithAll shards one = (a : Shard) → a ≡ slice_index_or shards one a → All (Agree a) shards

@@ -21,34 +21,45 @@ returns-in-Some-first_with-2-clause-line c =
     held_decides c.one_recording_law.ensures c.args.shards.now c.index-shards-0.result c.in-Some-first_with-2.shard.now first named covered
     c.in-Some-first_with-2.ensures
 
+pub returns-in-Some-contradiction-clause-fault : goal.returns-in-Some-contradiction-clause-fault
+returns-in-Some-contradiction-clause-fault c = ((c.index-shards-0.result.digest, search rules), (c.in-Some-contradiction.k, c.in-Some-contradiction.other, refl, refl, c.in-Some-contradiction.ensures))
+
 pub returns-in-None-clause-fault : goal.returns-in-None-clause-fault
 returns-in-None-clause-fault c =
     let inside : 0 < length c.args.shards.now = search rules in
     let first : IsOneOf c.args.shards.now c.index-shards-0.result = (0, inside, c.index-shards-0.is) in
     let covered : (k : ℕ) → k < c.index-shards-0.result.last → IsCovered c.args.shards.now k = rw c.in-Ok-None.field-0-is at c.in-Ok-None.ensures.ok in (
-      0,
-      0,
-      refl,
-      refl,
-      record {
-        one_inside = inside;
-        other_inside = inside;
-        apart = λ a b is_first is_other file is_a is_b.
-            let same : a ≡ c.index-shards-0.result = is_first ∙ get_or_default c.args.shards.now 0 a c.index-shards-0.result inside ∙ sym c.index-shards-0.is in
-            none_true c.args.shards.now c.index-shards-0.result first c.in_default-first_with.ensures c.in-None.ensures covered file
-            (subst (IsShardOf file) same is_a);
-      },
+      (c.index-shards-0.result.digest, search rules),
+      (
+        0,
+        0,
+        refl,
+        refl,
+        record {
+          one_inside = inside;
+          other_inside = inside;
+          apart = λ a b is_first is_other file is_a is_b.
+              let same : a ≡ c.index-shards-0.result = is_first ∙ get_or_default c.args.shards.now 0 a c.index-shards-0.result inside ∙ sym c.index-shards-0.is in
+              none_true c.args.shards.now c.index-shards-0.result first c.in_default-first_with.ensures c.in-None.ensures covered file
+              (subst (IsShardOf file) same is_a);
+        },
+      ),
     )
 
 pub returns-in-Err-clause-fault : goal.returns-in-Err-clause-fault
-returns-in-Err-clause-fault c = record {
-  shard = c.index-shards-0.result;
-  is_first = c.index-shards-0.is;
-  order = c.gap_end.ensures.above;
-  inside = c.gap_end.ensures.below;
-  missing = gap_missing c.args.shards.now c.in-Err.at c.index-shards-0.result.last c.gap_end.result c.in-Err.ensures.err c.gap_end.ensures;
-  before = c.in-Err.ensures.err.before;
-}
+returns-in-Err-clause-fault c = (
+  (c.index-shards-0.result.digest, search rules),
+  search rules,
+  record {
+    shard = c.index-shards-0.result;
+    is_first = c.index-shards-0.is;
+    order = c.gap_end.ensures.above;
+    inside = c.gap_end.ensures.below;
+    missing = gap_missing c.args.shards.now c.in-Err.at c.index-shards-0.result.last c.gap_end.result c.in-Err.ensures.err c.gap_end.ensures;
+    before = c.in-Err.ensures.err.before;
+    whole = c.gap_end.ensures.whole;
+  },
+)
 
 pub returns-in-Some-clause-fault : goal.returns-in-Some-clause-fault
 returns-in-Some-clause-fault c = (

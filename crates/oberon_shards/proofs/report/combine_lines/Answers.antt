@@ -5,7 +5,7 @@ use Rattle.oberon_shards.specs.declared.fault.TheConstants.{LONGEST_SHARDS}
 use Rattle.std.specs.Prelude.{All}
 use Rattle.oberon_shards.specs.declared.shard.Shard.{Shard}
 use Rattle.oberon_shards.specs.Combination.{combine_fault_line}
-use Rattle.oberon_shards.specs.Combining.{Decides, IsOneOf}
+use Rattle.oberon_shards.specs.Combining.{AllAgree, Decides, IsOneOf}
 use Rattle.oberon_shards.specs.Lines.{shard_lines}
 use Rattle.oberon_shards.proofs.Texts.{no_bytes, no_lines}
 use Rattle.oberon_shards.proofs.report.combine_lines.Goals as goal
@@ -22,9 +22,11 @@ returns-then-not-is_empty c =
         short,
         record {
           shards = c.read_shards.new.shards.items;
+          printable = read.printable;
           rest = c.in_ok-rest.rest.now;
           lines_are = read.lines_are;
           line_is = refl;
+          broken = c.in_ok-rest.ensures.1 some;
           none = no_lines c.args.text.now c.read_shards.new.shards.items c.in_ok-rest.rest.now read (c.in_ok-rest.ensures.1 some) some;
         },
       );
@@ -43,6 +45,8 @@ returns-in-Ok c =
     inl (record {
       short = short;
       shards = c.read_shards.new.shards.items;
+      printable = read.printable;
+      agree = subst (λ (xs : List Shard). AllAgree xs) c.deref.ensures.value c.in-Ok.ensures.agree;
       lines_are = read.lines_are ∙ ap (λ (x : List ℕ). shard_lines c.read_shards.new.shards.items ++ x) none ∙ append-nil (shard_lines c.read_shards.new.shards.items);
       shard = c.in-Ok.shard.now;
       is_one = subst (λ (xs : List Shard). IsOneOf xs c.in-Ok.shard.now) c.deref.ensures.value c.in-Ok.ensures.one;

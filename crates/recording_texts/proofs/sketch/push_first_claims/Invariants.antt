@@ -1,6 +1,7 @@
 use Rattle.std.proofs.Common.{◌≡◌, ◌++◌, take}
-use Rattle.recording_texts.specs.Layout.{first_claims}
+use Rattle.std.specs.List.{flat_map}
+use Rattle.recording_texts.specs.Claims.{first_bytes}
 use Rattle.recording_texts.proofs.sketch.push_first_claims.Given as goal
 
-abbrev pub invariant-loop-k : goal.invariant-loop-k
-invariant-loop-k l = l.file.items ≡ l.fn.file.items ++ first_claims l.replaced 0 (take l.k l.claims)
+abbrev pub invariant-loop-claim : goal.invariant-loop-claim
+invariant-loop-claim l = l.file.items ≡ l.fn.file.items ++ flat_map first_bytes (take l.claim-index l.claims)

@@ -5,6 +5,6 @@ use Rattle.recording_texts.proofs.sketch.push_second_claims.Given as goal
 
 abbrev pub invariant-loop-k : goal.invariant-loop-k
 invariant-loop-k l = record {
-  file : l.file.items ≡ l.fn.file.items ++ second_claims l.replaced 0 (replicate 1024 0) (take l.k l.claims);
+  file : l.file.items ≡ l.fn.file.items ++ second_claims (replicate 1024 0) (take l.k l.claims);
   before : l.before ≡ table_after (replicate 1024 0) (take l.k l.claims);
 }
