@@ -246,7 +246,7 @@ uint8_t galluspa_profile(const galluspa_state *state, const uint32_t *words, siz
 typedef struct {
     galluspa_state state;   /* the state before the instruction, and before the inputs of its count */
     uint64_t inputs_from;   /* the index of the first input of this count or of a later one */
-    uint64_t inputs_count;  /* how many inputs from there on the machine takes before the instruction */
+    uint64_t inputs_count;  /* how many inputs from there on, all in the list, the machine takes before the instruction */
     uint32_t word;          /* the word of the instruction */
     uint32_t address;       /* the address of the first byte that it loads or stores: below 2^24 */
     uint32_t old_value;     /* the value of these bytes before it, as a load of them gives it after the inputs */
@@ -328,8 +328,9 @@ typedef struct {
  * A branch with link that is taken is a call of the word that it goes to, unless it goes to the next word, or returns. A branch that
  * is taken, to another word than the next one, returns from an open call if it goes to the word after that call's branch, and R14 is
  * what it was there. It also ends the calls at which R14 was below what it is now, if that is at most limit, the highest R14 of the
- * stack: above it is another stack. And it ends the call that the same branch made with the same R14, if it makes it again. With a call
- * end all that were made after it. With the limit 0xFFFFFFFF each rise of R14 counts, and with 0 none does.
+ * stack: above it is another stack. And a branch with link ends the call that it made before with the same R14, whether it makes a call
+ * again or returns from a later one. With a call end all that were made after it. With the limit 0xFFFFFFFF each rise of R14 counts, and
+ * with 0 none does.
  *
  * calls holds the *calls_count calls that are open at the state's count, oldest first, and gets those that are open where the machine
  * is then: at the count to, or at the first count at which turns or calls is full, which is then the state's. turns gets the counts at

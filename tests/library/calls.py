@@ -1,37 +1,13 @@
 """What the library answers, against the program: checks, records, migrations, claims, and runs that are recorded."""
 
 import ctypes
-from collections.abc import Iterator
 from concurrent.futures import ThreadPoolExecutor
 from pathlib import Path
 
 from galluspa.formats.recording import read
 from tests.library.binding import WORDS, Input, Library
 from tests.library.header import constants
-from tests.library.trial import EXAMPLES, FACE, PROGRAM, STORED, expect, fail, run
-
-
-def changed(text: bytes, at: int, to: int | None = None) -> bytes:
-    """Bytes of which one is another: the one that is given, or the same with its lowest bit inverted."""
-    return text[:at] + bytes([text[at] ^ 1 if to is None else to]) + text[at + 1 :]
-
-
-def mutants() -> Iterator[bytes]:
-    """Recordings with one byte changed, and some cut off or too long."""
-    for text in (
-        STORED,
-        run(PROGRAM, "migrate", given=STORED)[0],
-        run(PROGRAM, "record", given=(EXAMPLES / "keys.json").read_bytes())[0],
-    ):
-        yield text
-        for at in [*range(0, 24), *range(24, len(text), 1 + len(text) // 40), *range(len(text) - 300, len(text), 9)]:
-            yield changed(text, at)
-            yield changed(text, at, 255)
-        for length in (0, 3, 23, 24, len(text) - 1):
-            yield text[:length]
-        yield text + b"\0"
-    for at in (30, len(FACE) - 700, len(FACE) - 3):
-        yield changed(FACE, at)
+from tests.library.trial import EXAMPLES, FACE, PROGRAM, STORED, changed, expect, fail, mutants, run
 
 
 def compare_checks(folder: Path, check: str, library: Library) -> None:

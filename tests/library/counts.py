@@ -52,6 +52,8 @@ RECORDED: Sequence[tuple[int, ...]] = (
 )
 # Idle loops: the word at which each begins, its words, and R0 and R1.
 IDLE_COUNTS, MOST_SECONDS = 1 << 30, 1.0
+# What else runs on the machine makes a call longer, so the shortest of some tries counts.
+TRIES = 3
 FIVE = imm(MOV, 2, 0, 5)
 IDLE: Sequence[tuple[str, int, Sequence[int], tuple[int, int]]] = (
     ("a jump to itself", 0, [JUMP], (0, 0)),
@@ -122,9 +124,13 @@ def skip_idle_loops(library: Library) -> None:
     for name, at, loop, registers in IDLE:
         state, words = machine(dict(enumerate(loop, at)), pc=at)
         state.r[:2] = registers
-        since = time.process_time()
-        code, visits, departures = library.profile(state, words, [], IDLE_COUNTS)
-        seconds = time.process_time() - since
+        seconds = MOST_SECONDS + 1
+        for _ in range(TRIES):
+            since = time.process_time()
+            code, visits, departures = library.profile(state, words, [], IDLE_COUNTS)
+            seconds = min(seconds, time.process_time() - since)
+            if seconds <= MOST_SECONDS:
+                break
         rounds, rest = divmod(IDLE_COUNTS, len(loop))
         wanted = {at + index: (rounds + (index < rest), 0) for index in range(len(loop))}
         wanted[at + len(loop) - 1] = rounds, rounds

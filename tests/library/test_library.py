@@ -6,7 +6,7 @@ from pathlib import Path
 
 import pytest
 
-from tests.library import arguments, calls, counts, examples, followed, header, refusals, searches
+from tests.library import calls, counts, examples, followed, header, refusals, searches
 from tests.library.binding import Library
 from tests.library.trial import EXAMPLES, TOP, WARNINGS, expect, run
 
@@ -38,11 +38,6 @@ TRIALS: Sequence[Callable[[Library], None]] = (
 def test_call(library: Library, trial: Callable[[Library], None]) -> None:
     """The calls of the library, one family after another."""
     trial(library)
-
-
-def test_arguments() -> None:
-    """The arguments of a process reach the program."""
-    arguments.reach_program()
 
 
 def test_header(tmp_path: Path) -> None:

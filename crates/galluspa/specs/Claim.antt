@@ -46,12 +46,13 @@ pub record IsClaimOf (recording : RecordingParts) (at : ℕ) (checkpoint : RawCh
   pub named : All (λ index. index < pages_count) checkpoint.pages
   pub written : IsWritten checkpoint.state (memory_of pages checkpoint.pages)
 
--- the bytes are a recording, and the first checkpoints are all of its, over the first pages, of which one is all zeros
+-- the bytes are a recording, and the first checkpoints are all of its, over the first pages: one that is all zeros, and those of its pool
 pub record AreClaims (text : List ℕ) (checkpoints : List RawCheckpoint) (checkpoints_count : ℕ) (pages : List RawPage) (pages_count : ℕ)
     : Type 0 where
   pub recording : RecordingParts
   pub is_text : Text text recording
   pub count_is : checkpoints_count ≡ length recording.checkpoints
+  pub pages_are : pages_count ≡ length recording.pool + 1
   pub checkpoints_fit : checkpoints_count ≤ length checkpoints
   pub pages_fit : pages_count ≤ length pages
   pub blank : (d : RawPage) → (slice_index_or pages 0 d).words ≡ zero_page

@@ -2,10 +2,14 @@
 -- that make the recordings of such a run true; and the numbers that a caller gets.
 use Rattle.std.specs.Prelude.{ℕ, ◌≡◌, ◌+◌, ◌<◌, ◌≤◌, List, ◌++◌, length}
 use Rattle.std.specs.List.{All}
+use Rattle.risc_model.specs.declared.call.Call.{Call}
 use Rattle.risc_model.specs.declared.event.Event.{Event}
+use Rattle.risc_model.specs.Calls.{open_after}
+use Rattle.risc_model.specs.Inclusive.{calls_between, inclusive, inclusive_between}
 use Rattle.risc_model.specs.InputOrder.{count_at}
 use Rattle.risc_model.specs.MachineState.{State}
 use Rattle.risc_model.specs.Replay.{run_of, sent_of}
+use Rattle.risc_model.specs.Visits.{departures, visits}
 use Rattle.risc_pages.specs.declared.sizes.TheConstants.{MEMORY_WORDS}
 use Rattle.risc_search.specs.declared.hit.Hit.{Hit}
 use Rattle.oberon_format.specs.Defined.{IsTrueAt, claimed}
@@ -53,6 +57,26 @@ HitsJoinLaw =
     → HasFoundHits inputs to old old_words raws room mid mid_words hits
     → HasFoundHits inputs further mid mid_words raws more new new_words later
     → AreAllHits inputs old old_words raws new.count (hits ++ later)
+
+-- counts of two runs, the second of which goes on from the first, add up to those of the whole: of a word, and of procedures with those
+-- that they call
+pub record CountsLaw : Type 0 where
+  pub visits_add : (p : ℕ) (es : List Event) (from a b : ℕ) (s : State)
+      → visits p es from (a + b) s ≡ visits p es from a s + visits p es (from + a) b (run_of es from a s)
+  pub departures_add : (p : ℕ) (es : List Event) (from a b : ℕ) (s : State)
+      → departures p es from (a + b) s ≡ departures p es from a s + departures p es (from + a) b (run_of es from a s)
+  pub inclusive_add : (group : ℕ → ℕ) (g limit : ℕ) (es : List Event) (from a b : ℕ) (s : State) (stack : List Call)
+      → inclusive group g limit es from (a + b) s stack
+      ≡ inclusive group g limit es from a s stack
+      + inclusive group g limit es (from + a) b (run_of es from a s) (open_after limit es from a s stack)
+  pub inclusive_between_add : (group : ℕ → ℕ) (g h limit : ℕ) (es : List Event) (from a b : ℕ) (s : State) (stack : List Call)
+      → inclusive_between group g h limit es from (a + b) s stack
+      ≡ inclusive_between group g h limit es from a s stack
+      + inclusive_between group g h limit es (from + a) b (run_of es from a s) (open_after limit es from a s stack)
+  pub calls_between_add : (group : ℕ → ℕ) (g h limit : ℕ) (es : List Event) (from a b : ℕ) (s : State) (stack : List Call)
+      → calls_between group g h limit es from (a + b) s stack
+      ≡ calls_between group g h limit es from a s stack
+      + calls_between group g h limit es (from + a) b (run_of es from a s) (open_after limit es from a s stack)
 
 -- ---- recordings that are made while a machine runs
 

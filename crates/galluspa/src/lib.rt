@@ -8,8 +8,8 @@
 //! length, aligned for its type. During the call no other thread writes it, or reads it if the call writes it. Nothing else is asked
 //! of the caller: each number is tested, and one that is out of its range is refused.
 //!
-//! Four laws join the calls. A run needs only the inputs of its own counts (`frame_law`). Calls from count to count are one run
-//! (`join_law`), and the hits of two searches, one after the other, are those of one (`hits_join_law`). A recording whose claims are
+//! Five laws join the calls. A run needs only the inputs of its own counts (`frame_law`). Calls from count to count are one run
+//! (`join_law`), and the hits of two searches, one after the other, are those of one (`hits_join_law`); counts add up (`counts_law`). A recording whose claims are
 //! true, and which is extended by what `galluspa_advance` returns from its last checkpoint, claims only what is true, and is accepted
 //! (`record_law`).
 #![tactic(auto)]
@@ -40,7 +40,7 @@ pub use conditions::{RawCondition, RawHit};
 pub use extend::{galluspa_begin, galluspa_extend};
 pub use find::galluspa_find;
 pub use hits::galluspa_hits;
-pub use laws::{codes_law, frame_law, hits_join_law, join_law, record_law};
+pub use laws::{codes_law, counts_law, frame_law, hits_join_law, join_law, record_law};
 pub use profile::galluspa_profile;
 pub use raw::{RawInput, RawState};
 pub use records::{RawRecord, galluspa_records};

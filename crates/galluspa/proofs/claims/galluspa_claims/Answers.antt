@@ -24,6 +24,7 @@ returns-clause-claims c = λ _.
       recording = r;
       is_text = read-text c.args.recording.now r c.in-Ok.ensures;
       count_is = c.count.ensures.count;
+      pages_are = ap (λ (n : ℕ). n + 1) many;
       checkpoints_fit = omega arith;
       pages_fit = omega arith;
       blank = λ d. each 0 d (omega arith) ∙ page_of-zero r.pool 0 refl;
