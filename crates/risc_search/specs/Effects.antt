@@ -1,7 +1,7 @@
 -- What the step of a count does, as a trace tells it: the word of its instruction, what this accesses, the byte that it sends, and the
 -- inputs that the machine takes before it. The processor and the devices before the step are those of its state.
-use Rattle.std.specs.Prelude.{ℕ, ◌≡◌, ◌-◌, ◌*◌, ◌/◌, ◌%◌, ◌^◌, ◌==◌, ◌&&◌, nat_lt, List, [], Option, None, Some, drop, take}
-use Rattle.std.specs.Prelude.{slice_index, if◌then◌else◌}
+use Rattle.std.specs.Prelude.{ℕ, ◌≡◌, ◌≤◌, ◌+◌, ◌-◌, ◌*◌, ◌/◌, ◌%◌, ◌^◌, ◌==◌, ◌&&◌, nat_lt, List, [], Option, None, Some, drop, take}
+use Rattle.std.specs.Prelude.{length, slice_index, if◌then◌else◌}
 use Rattle.std.specs.List.{filter}
 use Rattle.risc_core.specs.Word.{field}
 use Rattle.risc_devices.specs.DeviceWords.{read_value}
@@ -60,3 +60,4 @@ pub record IsEffect (effect : Effect) (es : List Event) (n : ℕ) (s : State) : 
   pub sent_is : effect.sent ≡ (exec (feed es n s)).1
   pub inputs_begin : IsNextAt es effect.inputs_from n
   pub inputs_are : take effect.inputs_count (drop effect.inputs_from es) ≡ taken_at es n s
+  pub inputs_within : effect.inputs_from + effect.inputs_count ≤ length es

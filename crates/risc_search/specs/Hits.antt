@@ -20,19 +20,16 @@ EndsAt [] next = ⊥
 EndsAt (hit ∷ []) next = hit.count + 1 ≡ next
 EndsAt (hit ∷ second ∷ rest) next = EndsAt (second ∷ rest) next
 
--- the list is full, and ends at the hit before a count
-abbrev pub IsFullAt : ℕ → List Hit → ℕ → Type 0
-IsFullAt room hits next = (length hits ≡ room) × EndsAt hits next
-
 -- a condition holds at a count of the range: the list has to have room for it
 abbrev pub HasHit : List Clause → List Event → ℕ → ℕ → State → Type 0
 HasHit conditions es from to s = (hit : Hit) × IsHit conditions es from to s hit
 
--- the answer of a search for all hits, if there is room for `room` of them: the hits up to, but not including, the count `next`. It is
--- the end of the range, or there is no more room, and it is the count after the last hit
+-- the answer of a search for all hits, if there is room for `room` of them: the hits up to, but not including, the count `next`. A full
+-- list ends the search, so `next` is the count after its last hit, even if no more hits follow; else it is the end of the range
 pub record AreFirstHits (conditions : List Clause) (es : List Event) (from to : ℕ) (s : State) (room : ℕ) (hits : List Hit)
     (next : ℕ) : Type 0 where
   pub hits_are : AreHits conditions es from s from next hits
   pub fits : length hits ≤ room
   pub inside : (from ≤ next) × (next ≤ to)
-  pub ends : next < to → IsFullAt room hits next
+  pub full : length hits ≡ room → EndsAt hits next
+  pub whole : length hits < room → next ≡ to

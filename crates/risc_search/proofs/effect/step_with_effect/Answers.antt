@@ -31,4 +31,8 @@ returns-clause-effect c =
             | then-cpu-eq0 w ↦ absurd (stops (sym stop ∙ w.if-cpu-eq0.true))
             | else-cpu-eq0 w ↦ w.inputs_count-is
           ]);
+      inputs_within = elim c.if-cpu-eq0.branch [
+        | then-cpu-eq0 w ↦ omega (arith, w.inputs_count-is, c.requires.next.inside, c.requires.end.inside)
+        | else-cpu-eq0 w ↦ omega (arith, w.inputs_count-is, c.requires.next.inside)
+      ];
     }

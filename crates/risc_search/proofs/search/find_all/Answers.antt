@@ -27,7 +27,7 @@ loop-progress-init c =
       hits = subst (λ (list : List Hit). AreHits c.args.conditions.now c.args.inputs.now from c.args.machine.now.state from c.begin-progress.result.at list) (sym c.new-list.ensures.items)
           (λ n after inside. absurd (omega (arith, after, inside, begun.at)));
       fits = omega (arith, ap (λ (list : List Hit). length list) c.new-list.ensures.items);
-      ends = inl (ap (λ (list : List Hit). length list) c.new-list.ensures.items);
+      full = λ is. absurd (omega (arith, ap (λ (list : List Hit). length list) c.new-list.ensures.items, is, c.requires.room));
       armed = refl;
       kept = keeps-all _;
     }
@@ -57,8 +57,8 @@ loop-progress-preserved-in-Continue-branch-3 c =
           (subst (λ (n : ℕ). AreHits conditions es from s from n (list ++ hit ∷ [])) (sym after)
           (hits-more conditions es from at c.args.to s t list hit i.reached i.state i.hits first.0 first.1));
       fits = omega (arith, ap (λ (items : List Hit). length items) pushed, length-append list (hit ∷ []), c.len.ensures, c.if-len-room.true);
-      ends = inr (inr (subst (λ (items : List Hit). EndsAt items new) (sym pushed)
-          (subst (λ (n : ℕ). EndsAt (list ++ hit ∷ []) n) (sym after) (ends-more list hit))));
+      full = λ _. subst (λ (items : List Hit). EndsAt items new) (sym pushed)
+          (subst (λ (n : ℕ). EndsAt (list ++ hit ∷ []) n) (sym after) (ends-more list hit));
       armed = next.armed ∙ i.armed;
       kept = keeps-on _ _ _ i.kept next.kept;
     }
@@ -96,7 +96,7 @@ loop-progress-preserved c =
       state = state-next _ es from at new s t c.next.new.machine.state c.new-search.ensures.inputs i.reached (omega (arith, end, later)) i.state next.state;
       hits = subst (λ (n : ℕ). AreHits conditions es from s from n list) (sym end) (hits-end conditions es from at c.args.to s t list i.reached later i.state i.hits first);
       fits = i.fits;
-      ends = inr (inl end);
+      full = λ is. absurd (omega (arith, is, c.len.ensures, c.if-len-room.true));
       armed = next.armed ∙ i.armed;
       kept = keeps-on _ _ _ i.kept next.kept;
     }

@@ -1,5 +1,4 @@
 use Rattle.std.proofs.Common.{length, ◌≡◌, ◌≤◌, ◌-◌}
-use Rattle.std.specs.Prelude.{◌⊎◌}
 use Rattle.risc_machine.specs.Allocation.{Keeps}
 use Rattle.risc_model.specs.Replay.{run_of}
 use Rattle.risc_search.specs.declared.search.TheConstants.{MAX_CONDITIONS}
@@ -14,7 +13,7 @@ invariant-loop-progress l = record {
   state : l.machine.state ≡ run_of l.inputs l.from (l.progress.at - l.from) l.fn.machine.state;
   hits : AreHits l.conditions l.inputs l.from l.fn.machine.state l.from l.progress.at l.list.items;
   fits : length l.list.items ≤ l.room;
-  ends : (length l.list.items ≡ 0) ⊎ (l.progress.at ≡ l.to) ⊎ EndsAt l.list.items l.progress.at;
+  full : length l.list.items ≡ l.room → EndsAt l.list.items l.progress.at;
   armed : length l.armed ≡ MAX_CONDITIONS;
   kept : Keeps l.fn.machine l.machine;
 }
