@@ -1,4 +1,7 @@
-"""Tests the built program on random programs, on small ones whose outcome is known, and on random ones that mostly wait.
+"""Tests the built program: what it prints for given arguments and files, and how it runs random programs, small ones whose outcome is
+known, and random ones that mostly wait.
+
+First its output and its exit status are compared with what the documents say, for recordings, sessions, lines of shards and arguments.
 
 Each program is recorded with a checkpoint at every count, with a few, and with one at the end. Those that wait run for
 100,000 counts and more; they are recorded with checkpoints so close together that no idle loop is skipped, with a few, and
@@ -31,7 +34,7 @@ from galluspa.engine.library import Library
 from galluspa.engine.program import Program
 from galluspa.formats.recording import read
 from galluspa.process.cli import Parser, Refused, name_as, run, whole_number
-from tests.programs import conditions, randomly, shards, waiting
+from tests.programs import conditions, printed, randomly, shards, waiting
 from tests.programs.rows import ANN_ROW, ROWS, Row
 from tests.programs.trial import DENSE, FEW, Case, Finding, Witnesses, altered, findings, smallest_apart
 from tests.support import TOP
@@ -166,7 +169,7 @@ def try_shards(program: Path, first: int, many: int, jobs: int, folder: Path) ->
         held = pool.map(lambda text: shards.tried_held(program, text), list(shards.held()))
         seeds = pool.map(lambda seed: shards.tried_seed(program, seed), range(first, first + many))
         tried = [*held, *seeds]
-    problems = [it.problems[0] for it in tried if it.problems]
+    problems = [*(it.problems[0] for it in tried if it.problems), *shards.made_problems(program)]
     for problem in problems[:MOST_FAILURES]:
         print(problem)
         print("  to see it again, if it has a seed: tests/run programs --programs 0 --waiting 0 --shards 1 --seed SEED")
@@ -234,6 +237,7 @@ def main(arguments: Sequence[str]) -> int:
         witnesses = Witnesses(
             Program.find(given.program).path, Library.find(given.library), built(folder), compiled(COUNTER, folder / "counts")
         )
+        failed = printed.try_calls(witnesses.program, given.jobs, folder)
         expect_to_notice(witnesses, folder)
         cases = [
             *map(randomly.case, range(given.seed, given.seed + given.programs)),
@@ -242,22 +246,22 @@ def main(arguments: Sequence[str]) -> int:
         small = [*ROWS, *conditions.rows()]
         rows = each(given.jobs, lambda row: tried_row(witnesses, row, folder), small)
         programs = each(given.jobs, lambda case: tried(witnesses, case, folder), cases)
-        failed, instructions, stopped, kept = 0, 0, 0, None
+        wrong, instructions, stopped, kept = 0, 0, 0, None
         for outcome in (*rows, *programs):
             instructions += outcome.done
             stopped += outcome.stop > 0
             if outcome.found:
-                failed += 1
-                if failed <= MOST_FAILURES:
+                wrong += 1
+                if wrong <= MOST_FAILURES:
                     kept = kept or Path(given.keep or tempfile.mkdtemp(prefix="random-programs-"))
                     report_failure(witnesses, outcome, kept)
         if given.shards:
             failed += try_shards(witnesses.program, given.seed, given.shards, given.jobs, folder)
     print(
         f"random programs: {len(small)} small ones and {given.programs} random ones, {given.waiting} that wait, {stopped} of these stopped, "
-        f"{instructions:,} instructions in {time.monotonic() - start:.0f} s, {failed or 'none'} failed"
+        f"{instructions:,} instructions in {time.monotonic() - start:.0f} s, {wrong or 'none'} failed"
     )
-    return 1 if failed else 0
+    return 1 if failed or wrong else 0
 
 
 def begin(arguments: Sequence[str]) -> NoReturn:

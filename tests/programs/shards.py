@@ -21,6 +21,40 @@ DIVISIONS = (1, 2, 2, 3, 3, 4, 5, 7, 16)
 HELD_DIVISIONS = (1, 2, 3, 7, 16, 33)
 STATUSES = {"holds": 0, "fails": 1, "refused": 2}
 EXAMPLES = TOP / "examples"
+# What no shard that fails says of the one segment of a recording.
+NO_FAILURES = (
+    "false checkpoint 2 at 9 part R0\n",
+    "false checkpoint 1 at 0 part R0\n",
+    "false checkpoint 1 at 1099511627777 part R0\n",
+    "false checkpoint 1 at 9 part R16\n",
+    "false checkpoint 1 at 9 part page 1024\n",
+    "false checkpoint 1 at 9 part pages\n",
+    "false checkpoint 1 at 9 part \n",
+)
+# Lines without their first fields, and why they combine to no line.
+MADE = {
+    (
+        "0 1 2 holds: accepted 2 checkpoints 9 steps",
+        "1 2 2 fails: false checkpoint 2 at 5 part R0",
+    ): "5 contradiction of lines 2 and 1",
+    (
+        "0 1 2 holds: accepted 2 checkpoints 9 steps",
+        "1 2 2 fails: false checkpoint 2 at 12 part R0",
+    ): "5 contradiction of lines 2 and 1",
+    (
+        "2 3 3 holds: accepted 3 checkpoints 9 steps",
+        "0 1 3 fails: false checkpoint 1 at 8 part R0",
+    ): "5 contradiction of lines 2 and 1",
+    (
+        "0 1 3 fails: false checkpoint 1 at 9 part H",
+        "1 2 3 fails: false checkpoint 2 at 5 part H",
+    ): "5 contradiction of lines 1 and 2",
+    (
+        "0 1 3 fails: false checkpoint 1 at 9 part H",
+        "2 3 3 fails: false checkpoint 3 at 10 part H",
+    ): "5 contradiction of lines 1 and 2",
+    ("0 1 9 holds: accepted 9 checkpoints 9 steps", "5 6 9 holds: accepted 9 checkpoints 9 steps"): "6 missing segments 1 to 4",
+}
 
 
 @dataclass(frozen=True)
@@ -122,13 +156,14 @@ def _refused(lines: Sequence[str], other: str, rng: Random) -> Iterator[tuple[Se
     yield [*lines[:at], lines[0][: rng.randrange(1, len(lines[0]))]], Said(f"shards refused 2 syntax at line {at + 1}\n", 2)
     lies = [str(lie) for lie in _lies(rng.choice([Line.read(it) for it in lines]))]
     yield [*lines[:at], rng.choice(lies), *lines[at:]], Said("shards refused 5 contradiction of lines ", 2)
+    for never in _unprinted(rng.choice([Line.read(it) for it in lines])):
+        yield [*lines[:at], never, *lines[at:]], Said(f"shards refused 2 syntax at line {at + 1}\n", 2)
 
 
 def _lies(it: Line) -> Iterator[Line]:
     """Yields lines that are not true of any file of which this one is: of other totals, another finding or another line."""
-    yield replace(it, last=it.last + 1)
     if it.found == "refused":
-        yield replace(it, said="refused 99 unknown at byte 0\n")
+        yield replace(it, said="refused 2 magic at byte 0\n" if "magic" not in it.said else "refused 3 version at byte 4\n")
         yield replace(it, found="holds", said="accepted 0 checkpoints 0 steps\n")
         return
     yield replace(it, start=0, end=0, last=0, found="refused", said="refused 1 short at byte 0\n")
@@ -138,6 +173,36 @@ def _lies(it: Line) -> Iterator[Line]:
         yield replace(it, found="holds", said=f"accepted {it.last} checkpoints 99999999999 steps\n")
     else:
         yield replace(it, said=f"accepted {it.last} checkpoints 99999999999 steps\n")
+        yield replace(it, last=it.last + 1, said=f"accepted {it.last + 1} checkpoints 99999999999 steps\n")
+
+
+def _unprinted(it: Line) -> Iterator[str]:
+    """Yields lines that `check --shard` prints of no file: in another form, or with numbers that no recording has."""
+    line = str(it)
+    yield line[:-1] + "\r\n"
+    yield line[:-1] + " \n"
+    yield line.replace(": ", ": \x1b[2J", 1)
+    yield line.replace(" ", "  ", 1)
+    yield line.replace(it.digest, it.digest[:-1] + "G")
+    yield line.replace(f" {it.start} ", f" 0{it.start} ", 1)
+    yield from (str(replace(it, found=found)) for found in STATUSES if found != it.found)
+    yield str(replace(it, end=it.last + 1))
+    yield str(replace(it, start=it.end + 1))
+    yield str(replace(it, start=0, end=1, last=5000, found="holds", said="accepted 5000 checkpoints 99999999999 steps\n"))
+    yield str(replace(it, start=0, end=0, last=2, found="holds", said="accepted 2 checkpoints 1 steps\n"))
+    yield str(replace(it, start=0, end=0, last=0, found="holds", said="accepted 0 checkpoints 1 steps\n"))
+    yield str(replace(it, start=0, end=0, last=1, found="fails", said="false checkpoint 0 at 0 part R0\n"))
+    yield from (str(replace(it, start=0, end=1, last=1, found="fails", said=said)) for said in NO_FAILURES)
+    yield str(replace(it, start=0, end=0, last=0, found="refused", said="refused 1 magic at byte 0\n"))
+    yield str(replace(it, start=0, end=0, last=0, found="refused", said="refused 9 other at byte 0\n"))
+
+
+def made_problems(program: Path) -> Iterator[str]:
+    """Yields what is wrong with the answers to lines that were made up."""
+    for lines, wanted in MADE.items():
+        said = combined(program, [f"shard {'ab' * 32} {line}\n" for line in lines])
+        if said != Said(f"shards refused {wanted}\n", 2):
+            yield f"{said} in place of {wanted} of {lines}"
 
 
 def held() -> Iterator[Text]:

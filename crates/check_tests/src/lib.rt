@@ -1,8 +1,7 @@
-//! Tests of `oberon_claims` and `oberon_check`, over their public names: the claim book, segments, verdicts, workers and verdict
-//! lines.
+//! Tests of `oberon_claims` and `oberon_check`, over their public names: the claim book, segments, verdicts and workers.
 //!
-//! They also test the whole check on recordings that are cut off or at a limit, and with gates that hold workers back in the
-//! worst order. Nothing is exported.
+//! They also test the whole check on a file that is cut off at each byte, and with gates that hold workers back in the worst
+//! order. Nothing is exported.
 #![tactic(auto)]
 
 #[cfg(test)]

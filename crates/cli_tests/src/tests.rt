@@ -1,13 +1,4 @@
-//! Worked examples through `serve`, over readers and writers in memory.
+//! Worked examples through `serve`, over readers and writers that fail, that never end, or that take one byte at a time.
 
-mod checks;
 mod ends;
-mod faults;
-mod helped;
-mod migrations;
-mod records;
-mod screens;
-mod served;
-mod shards;
-mod timers;
 mod watched;

@@ -20,7 +20,7 @@ use std::thread::Threads;
 
 /// Returns the arguments of the process. By convention the first is the program's name, whatever starts it; a process that is
 /// started with no arguments at all has none. No contract can say which these are, since the kit's `env::args` has none:
-/// `tests/library` runs the built program with the arguments of each command.
+/// `tests/run programs` runs the built program with the arguments of each command.
 pub fn process_arguments<H: AllocGlobal + Env>(rt: &H) -> Result<Vec<String>, Failure> {
     Ok(
         env::args(rt)

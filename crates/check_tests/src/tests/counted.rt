@@ -2,7 +2,7 @@
 
 use super::checked::{Crew, checked};
 use super::gates::counters;
-use super::jumps::{FALSE_LEDS, LIT_LEDS, jump_recording, jumps};
+use super::jumps::{FALSE_LEDS, LIT_LEDS, Written, jump_recording, jumps};
 use oberon_check::{Gate, Verdict, check_recording};
 use oberon_format::Recording;
 use std::alloc::Global;
@@ -56,15 +56,12 @@ fn counted_verdict<R: Threads + Wait + Sync>(
     crew: Crew,
     jobs: u32,
 ) -> Result<Verdict, Fail> {
-    let Crew { workers, cut } = crew;
-    if workers < 1 || workers > 64 || cut < 1 {
-        return Err("no such workers or cut".into());
-    }
+    let workers = crew.workers.min(64).max(1);
     let begun = counters(alloc, 12)?;
     let gate = CountingGate {
         begun: begun.as_slice(),
     };
-    let verdict = check_recording(rt, alloc, r, workers, cut, &gate)?;
+    let verdict = check_recording(rt, alloc, r, workers, crew.cut.max(1), &gate)?;
     if !each_begun_once(begun.as_slice(), jobs) {
         return Err("a job is lost, or begins twice".into());
     }
@@ -103,10 +100,11 @@ fn counted_line<R: Threads + Wait + Sync>(
     let gate = CountingGate {
         begun: begun.as_slice(),
     };
-    let (line, status) = checked(rt, alloc, bytes, crew, &gate)?;
-    let named = line.as_slice() == b"false checkpoint 3 at 30 part LEDs\n".as_slice();
+    let report = checked(rt, alloc, bytes, crew, &gate)?;
+    let line = b"false checkpoint 3 at 30 part LEDs\n";
+    let named = report.line.as_slice() == line.as_slice();
     Ok((
-        named && status == 1,
+        named && report.status == 1,
         each_begun_once(begun.as_slice(), jobs),
     ))
 }
@@ -118,7 +116,12 @@ fn line_of_jumps<R: Threads + Wait + Sync>(
     crew: Crew,
     jobs: u32,
 ) -> Result<(bool, bool), Fail> {
-    let bytes = jumps(10).first_file(alloc, &LIT_LEDS)?;
+    let written = Written {
+        recording: jumps(10),
+        changes: &LIT_LEDS,
+        version: 1,
+    };
+    let bytes = written.bytes(alloc)?;
     counted_line(rt, alloc, bytes.as_slice(), crew, jobs)
 }
 

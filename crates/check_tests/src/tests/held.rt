@@ -73,8 +73,8 @@ fn meets<R: Abort + Threads + Wait + Sync>(
         begun: begun.as_slice(),
         met: &met,
     };
-    let (found, ended) = checked(rt, alloc, bytes, TWO, &gate)?;
-    is_line(rt, found.as_slice(), line);
-    assert!(rt; ended == status, "another status");
+    let report = checked(rt, alloc, bytes, TWO, &gate)?;
+    is_line(rt, report.line.as_slice(), line);
+    assert!(rt; report.status == status, "another status");
     Ok(met.load(Ordering::SeqCst))
 }

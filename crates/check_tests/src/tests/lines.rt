@@ -1,48 +1,23 @@
-//! The names of parts, the messages of faults, and the lines of files.
+//! The messages of faults, and the lines of files that are cut off.
 
-use super::checked::{Crew, gives, text_gives};
-use super::jumps::{GIVEN_H, jumps};
-use oberon_check::{CheckFault, CollectFault, Part};
+use super::checked::{Crew, checked};
+use oberon_check::{CheckFault, CollectFault, FreeGate};
+use recording_texts::STORED_RUN;
 use std::alloc::{AllocError, Global};
 use std::fmt::Display;
+use std::sync::Wait;
 use std::test::Fail;
+use std::thread::Threads;
+
+const TWO: Crew = Crew {
+    workers: 2,
+    cut: 64,
+};
 
 /// Reports whether a value is printed as `text`.
 fn is_printed<D: Display>(alloc: Global, value: &D, text: &str) -> Result<bool, AllocError> {
     let printed = format!(in alloc; "{value}")?;
     Ok(printed.as_str() == text)
-}
-
-/// Parts, each with its name.
-const NAMES: [(Part, &str); 15] = [
-    (Part::R(15), "R15"),
-    (Part::H, "H"),
-    (Part::Pc, "PC"),
-    (Part::Flags, "flags"),
-    (Part::Stop, "stop"),
-    (Part::Timer, "timer"),
-    (Part::Rate, "rate"),
-    (Part::Phase, "phase"),
-    (Part::Switches, "switches"),
-    (Part::Leds, "LEDs"),
-    (Part::Mouse, "mouse"),
-    (Part::Serial, "serial"),
-    (Part::Keys, "keys"),
-    (Part::Sent, "out"),
-    (Part::Page(1023), "page 1023"),
-];
-
-/// Returns all parts with their names.
-fn names() -> &'static [(Part, &'static str)] {
-    &NAMES
-}
-
-#[test]
-fn names_of_parts(rt: HostRuntime) -> Result<(), Fail> {
-    for (part, name) in names() {
-        assert!(rt; is_printed(rt.alloc(), part, *name)?, "{name}");
-    }
-    Ok(())
 }
 
 /// Faults, each with its message.
@@ -72,19 +47,20 @@ fn message_of_a_failed_allocation(rt: HostRuntime) -> Result<(), Fail> {
     Ok(())
 }
 
+/// Reports whether a file that is cut off is refused as short, at its end.
+fn is_short<R: Threads + Wait + Sync>(rt: &R, alloc: Global, bytes: &[u8]) -> Result<bool, Fail> {
+    let length = bytes.len();
+    let line = format!(in alloc; "refused 1 short at byte {length}\n")?;
+    let report = checked(rt, alloc, bytes, TWO, &FreeGate)?;
+    Ok(report.line.as_slice() == line.as_bytes() && report.status == 2)
+}
+
 #[test]
-fn lines_of_files(rt: HostRuntime) -> Result<(), Fail> {
-    let alloc = rt.alloc();
-    let false_h = (b"false checkpoint 2 at 20 part H\n".as_slice(), 1);
-    let three = jumps(3);
-    let one = Crew { workers: 1, cut: 1 };
-    text_gives(&rt, alloc, &three, &GIVEN_H, one, false_h)?;
-    let many = Crew {
-        workers: 64,
-        cut: 2,
-    };
-    let accepted = (b"accepted 3 checkpoints 30 steps\n".as_slice(), 0);
-    text_gives(&rt, alloc, &three, &[], many, accepted)?;
-    let short = (b"refused 1 short at byte 0\n".as_slice(), 2);
-    gives(&rt, alloc, b"", Crew { workers: 2, cut: 1 }, short)
+fn a_file_cut_anywhere_is_short(rt: HostRuntime) -> Result<(), Fail> {
+    let bytes = STORED_RUN.first_file(rt.alloc())?;
+    for length in 0..bytes.len() {
+        let short = is_short(&rt, rt.alloc(), &bytes[..length])?;
+        assert!(rt; short, "another line or status of {length} bytes");
+    }
+    Ok(())
 }

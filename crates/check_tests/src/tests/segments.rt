@@ -1,10 +1,10 @@
 //! Worked examples of segment verdicts, and of the verdicts collected from them.
 ghost use Rattle.std.specs.Prelude.{◌≡◌, All, IfOk};
 
-use super::jumps::{FALSE_H, GIVEN_H, Written, jump_recording, jumps};
+use super::jumps::{Change, FALSE_H, GIVEN_H, Written, jump_recording, jumps};
 use oberon_check::{CollectFault, Part, SegmentVerdict, Verdict, collect, replay_segment};
 use oberon_format::Recording;
-use recording_texts::{EMPTY, Sketch, Spot};
+use recording_texts::{EMPTY, Sketch};
 use std::alloc::{AllocError, Global};
 use std::test::Fail;
 
@@ -69,16 +69,16 @@ fn collect_some(
     Ok(collect(r, verdicts.as_slice()))
 }
 
-/// Reports whether `collect` makes this of the verdicts of these segments, in a recording with some numbers replaced.
+/// Reports whether `collect` makes this of the verdicts of these segments, in a recording with false claims.
 fn is_collected(
     alloc: Global,
-    (recording, replaced): (Sketch<'_>, &[(Spot, u32)]),
+    (recording, changes): (Sketch<'_>, &[Change]),
     segments: &[u32],
     expected: Result<Verdict, CollectFault>,
 ) -> Result<bool, Fail> {
     let written = Written {
         recording,
-        replaced,
+        changes,
         version: 1,
     };
     let r = written.recording(alloc)?;

@@ -62,12 +62,12 @@ fn long_recordings(version: u32) -> [Written<'static>; 2] {
     [
         Written {
             recording: LONG,
-            replaced: &[],
+            changes: &[],
             version,
         },
         Written {
             recording: LONG_COUNT,
-            replaced: &[],
+            changes: &[],
             version,
         },
     ]

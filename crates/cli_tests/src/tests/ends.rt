@@ -1,6 +1,5 @@
 //! Readers and writers that fail, that never end, or that take one byte at a time.
 
-use super::served::{is_written, served};
 use super::watched::Watched;
 use oberon_cli::{Source, serve};
 use recording_texts::STORED_RUN;
@@ -62,6 +61,11 @@ impl Read for Endless {
         self.given = self.given.saturating_add(count as u64);
         Ok(count)
     }
+}
+
+/// Checks what was written.
+fn is_written(rt: &impl Abort, written: &[u8], wanted: &[u8]) {
+    assert_eq!(rt; written, wanted);
 }
 
 #[test]
@@ -150,7 +154,7 @@ const READING: [&[&str]; 4] = [
 
 #[test]
 fn a_read_that_fails_leaves_its_line_alone(rt: HostRuntime) -> Result<(), Fail> {
-    let text = STORED_RUN.first_file(rt.alloc(), &[])?;
+    let text = STORED_RUN.first_file(rt.alloc())?;
     for arguments in READING {
         for why in [ErrorKind::Other, ErrorKind::Interrupted] {
             // The file takes ten calls, and its end is seen at the eleventh.
@@ -178,7 +182,7 @@ fn is_accepted<H: Abort + AllocGlobal + Threads + Wait + Sync>(
 
 #[test]
 fn a_read_that_would_fail_after_the_end_is_not_made(rt: HostRuntime) -> Result<(), Fail> {
-    let text = STORED_RUN.first_file(rt.alloc(), &[])?;
+    let text = STORED_RUN.first_file(rt.alloc())?;
     let mut input = failing_reader(&text, 11, ErrorKind::Other);
     is_accepted(&rt, &["check"], &mut input);
     assert!(rt; !input.has_failed());
@@ -187,7 +191,7 @@ fn a_read_that_would_fail_after_the_end_is_not_made(rt: HostRuntime) -> Result<(
 
 #[test]
 fn a_reader_of_one_byte_a_call_is_read_to_its_end(rt: HostRuntime) -> Result<(), Fail> {
-    let text = STORED_RUN.first_file(rt.alloc(), &[])?;
+    let text = STORED_RUN.first_file(rt.alloc())?;
     is_accepted(&rt, &[], &mut Dripping { rest: &text });
     Ok(())
 }
@@ -252,7 +256,7 @@ const REFUSALS: [Refusal; 3] = [
 
 #[test]
 fn a_write_that_fails_leaves_a_prefix_of_the_line(rt: HostRuntime) -> Result<(), Fail> {
-    let text = STORED_RUN.first_file(rt.alloc(), &[])?;
+    let text = STORED_RUN.first_file(rt.alloc())?;
     for calls in 0..LINE.len() {
         for refusal in REFUSALS {
             let output = refusing(rt.alloc(), calls, refusal);
@@ -264,8 +268,8 @@ fn a_write_that_fails_leaves_a_prefix_of_the_line(rt: HostRuntime) -> Result<(),
 
 #[test]
 fn a_write_that_fails_leaves_a_prefix_of_a_migrated_file(rt: HostRuntime) -> Result<(), Fail> {
-    let text = STORED_RUN.first_file(rt.alloc(), &[])?;
-    let (migrated, _) = served(&rt, &["migrate"], &text);
+    let text = STORED_RUN.first_file(rt.alloc())?;
+    let migrated = STORED_RUN.second_file(rt.alloc())?;
     for calls in [0, 1, 24, migrated.len().saturating_sub(1)] {
         let prefix = migrated.get(..calls).ok_or("the text is shorter")?;
         for refusal in REFUSALS {
@@ -278,7 +282,7 @@ fn a_write_that_fails_leaves_a_prefix_of_a_migrated_file(rt: HostRuntime) -> Res
 
 #[test]
 fn a_flush_that_fails_is_a_write_fault(rt: HostRuntime) -> Result<(), Fail> {
-    let text = STORED_RUN.first_file(rt.alloc(), &[])?;
+    let text = STORED_RUN.first_file(rt.alloc())?;
     for (flush, status) in REFUSALS.into_iter().zip([0, 3, 3]) {
         let output = Narrow {
             flush,

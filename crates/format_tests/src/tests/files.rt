@@ -38,9 +38,9 @@ pub(crate) fn file_of(
     sketch: &Sketch<'_>,
 ) -> Result<Vec<u8>, AllocError> {
     if version == 1 {
-        sketch.first_file(alloc, &[])
+        sketch.first_file(alloc)
     } else {
-        sketch.second_file(alloc, &[])
+        sketch.second_file(alloc)
     }
 }
 

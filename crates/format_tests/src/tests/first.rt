@@ -62,7 +62,7 @@ const SKETCHES: [Sketch<'static>; 5] = [STORED_RUN, EMPTY, EQUAL_PAGES, ONE_BYTE
 
 /// Returns the recording of a sketch, from its file of version 1.
 fn first_recording(alloc: Global, sketch: &Sketch<'_>) -> Option<Recording> {
-    let bytes = sketch.first_file(alloc, &[]).ok()?;
+    let bytes = sketch.first_file(alloc).ok()?;
     read(alloc, &bytes).ok()
 }
 
@@ -80,7 +80,7 @@ fn second_recording(alloc: Global, sketch: &Sketch<'_>) -> Option<Recording> {
 
 /// Returns the length of the file of version 1.
 fn first_length(alloc: Global, sketch: &Sketch<'_>) -> Option<usize> {
-    match sketch.first_file(alloc, &[]) {
+    match sketch.first_file(alloc) {
         Ok(bytes) => Some(bytes.len()),
         Err(_) => None,
     }

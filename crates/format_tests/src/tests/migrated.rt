@@ -16,7 +16,7 @@ fn is_migrated(alloc: Global, version: u32) -> bool {
     let Some(migrated) = migrated_file(alloc, version) else {
         return false;
     };
-    match STORED_RUN.second_file(alloc, &[]) {
+    match STORED_RUN.second_file(alloc) {
         Ok(second) => migrated.as_slice() == second.as_slice(),
         Err(_) => false,
     }

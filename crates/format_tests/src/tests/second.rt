@@ -39,7 +39,7 @@ fn five_changes() -> Sketch<'static> {
 
 /// Returns the recording of the file of a sketch.
 fn second_recording(alloc: Global, sketch: &Sketch<'_>) -> Option<Recording> {
-    let bytes = sketch.second_file(alloc, &[]).ok()?;
+    let bytes = sketch.second_file(alloc).ok()?;
     read(alloc, &bytes).ok()
 }
 
@@ -54,7 +54,7 @@ fn is_written_again(alloc: Global, sketch: &Sketch<'_>) -> bool {
     let Some(again) = file_again(alloc, sketch) else {
         return false;
     };
-    match sketch.second_file(alloc, &[]) {
+    match sketch.second_file(alloc) {
         Ok(bytes) => again.as_slice() == bytes.as_slice(),
         Err(_) => false,
     }
@@ -255,7 +255,7 @@ fn length_of_another_fault(
 
 /// Returns the file of the five changes with these words.
 fn five_changes_with(alloc: Global, words: &[(u16, u32)]) -> Result<Vec<u8>, AllocError> {
-    let mut bytes = five_changes().second_file(alloc, &[])?;
+    let mut bytes = five_changes().second_file(alloc)?;
     put_words(&mut bytes, words);
     Ok(bytes)
 }

@@ -1,8 +1,7 @@
 //! Sessions that are made of their parts: each refusal, and the session of the stored run.
 
-use super::{START, recording_of};
 use oberon_format::{words_fit, write};
-use oberon_session::{PlacedPage, Session, SessionFault, make_recording};
+use oberon_session::{PlacedPage, Session, SessionFault, make_recording, read_session};
 use risc_model::{Cpu, Flags, Inputs};
 use risc_pages::Page;
 use std::alloc::Global;
@@ -176,12 +175,17 @@ fn file_of_parts(alloc: Global) -> Option<Vec<u8>> {
     write(alloc, &recording).ok()
 }
 
-/// Returns the recording file of the same session, read from JSON.
+/// The same session in JSON.
+const JSON: &str = concat!(
+    "{\"format\":\"oberon-session\",\"version\":1,",
+    "\"start\":{\"R\":[0,0,0,0,0,0,0,0,0,0,0,0,0,0,0,0],\"H\":0,\"PC\":0,\"flags\":0},",
+    "\"pages\":[{\"at\":0,\"hex\":\"05000040\"}],\"inputs\":[],\"checkpoints\":[100]}"
+);
+
+/// Returns its recording file.
 fn file_of_json(alloc: Global) -> Option<Vec<u8>> {
-    let text = format!(in alloc;
-        "{START}\"pages\":[{{\"at\":0,\"hex\":\"05000040\"}}],\"inputs\":[],\"checkpoints\":[100]}}"
-    );
-    let recording = recording_of(alloc, text.ok()?.as_str())?;
+    let session = read_session(alloc, JSON.as_bytes()).ok()?;
+    let recording = make_recording(alloc, &session).ok()?;
     write(alloc, &recording).ok()
 }
 
