@@ -10,7 +10,7 @@ from collections.abc import Sequence
 from galluspa.analysis.timeline import waypoints
 from galluspa.engine.following import EACH_RISE, NO_CALL, TURN, Call, Follower, Turn
 from galluspa.engine.tracing import Run
-from galluspa.process.cli import Parser, progress, whole_number
+from galluspa.process.cli import Parser, progress
 
 # The most followers that are kept, of a megabyte each, and the most calls that are open in all of them together.
 KEPT, MOST_KEPT_CALLS = 24, 1 << 19
@@ -22,13 +22,14 @@ AHEAD = 1 << 14
 
 def add_stack_limit_option(options: Parser) -> None:
     """Adds the option that says where another stack begins."""
-    options.add_argument(
+    options.add_number(
         "--stack-limit",
-        metavar="ADDRESS",
-        type=whole_number(0, EACH_RISE),
-        default=EACH_RISE,
-        help="the highest R14 of the stack: if R14 rises above it, another stack is used, as by coroutines, and no call ends "
+        "ADDRESS",
+        0,
+        EACH_RISE,
+        "the highest R14 of the stack: if R14 rises above it, another stack is used, as by coroutines, and no call ends "
         "by that (default: each rise of R14 ends the calls below it)",
+        default=EACH_RISE,
     )
 
 

@@ -1,12 +1,13 @@
 """Shows instructions one after the other, with a line where the procedure changes: its name, and who called it."""
 
-from collections.abc import Hashable, Iterator, Sequence
+import json
+from collections.abc import Hashable, Iterator
 
 from galluspa.analysis.calls import Calls, RisingCalls
 from galluspa.analysis.entries import Entries
-from galluspa.analysis.naming import named_object, remarks_on, with_remark
-from galluspa.engine.following import Call
+from galluspa.analysis.naming import remarks_on, with_remark
 from galluspa.engine.machine import Machine
+from galluspa.engine.recorded import PC, RawStep
 from galluspa.engine.tracing import Step, lines
 from galluspa.formats.symbols import Symbols
 
@@ -21,28 +22,29 @@ class Trace:
 
     def lines(self, step: Step) -> Iterator[str]:
         """Yields the lines that show the next instruction."""
-        if self._is_new(step):
-            yield from self._heading(step)
+        count, pc = step.before.count, step.before.pc
+        if self._is_new(count, pc):
+            yield from self._heading(count, pc)
         *inputs, shown = lines(step)
         yield from inputs
         yield with_remark(shown, *remarks_on(step, self._symbols))
 
-    def object(self, step: Step) -> dict[str, object]:
-        """Returns the next instruction for machines."""
-        return named_object(step, self._symbols)
+    def member(self, step: RawStep) -> str:
+        """Returns what the object of the next instruction has besides, in JSON."""
+        return ""
 
-    def _heading(self, step: Step) -> Iterator[str]:
+    def _heading(self, count: int, pc: int) -> Iterator[str]:
         """Yields the lines that come where the place has another name."""
-        if name := self._symbols.text(4 * step.before.pc):
+        if name := self._symbols.text(4 * pc):
             yield f"{name}:"
 
-    def _is_new(self, step: Step) -> bool:
+    def _is_new(self, count: int, pc: int) -> bool:
         """Returns whether an instruction is at another place than the one before it."""
-        self._last, last = self._place(step), self._last
+        self._last, last = self._place(count, pc), self._last
         return self._last != last
 
-    def _place(self, step: Step) -> Hashable:
-        return self._symbols.start_of(4 * step.before.pc)
+    def _place(self, count: int, pc: int) -> Hashable:
+        return self._symbols.start_of(4 * pc)
 
 
 class CallTrace(Trace):
@@ -55,19 +57,14 @@ class CallTrace(Trace):
         self._calls = RisingCalls(calls, machine.count)
         self._heading_of_calls = f"stack since {calls.first:,}" if calls.first else "stack"
 
-    def object(self, step: Step) -> dict[str, object]:
-        """Returns the next instruction for machines; where the place changes, with the names of the stack."""
-        shown = super().object(step)
-        if self._is_new(step):
-            shown["stack"] = self._entries.stack(step.before.pc, self._open(step))
-        return shown
+    def member(self, step: RawStep) -> str:
+        """Returns the names of the stack, where the place changes."""
+        count, pc = step.at, step.before[PC]
+        return f', "stack": {json.dumps(self._entries.stack(pc, self._calls.at(count)))}' if self._is_new(count, pc) else ""
 
-    def _heading(self, step: Step) -> Iterator[str]:
-        yield from super()._heading(step)
-        yield f"  {self._heading_of_calls}: {self._entries.line(step.before.pc, self._open(step))}"
+    def _heading(self, count: int, pc: int) -> Iterator[str]:
+        yield from super()._heading(count, pc)
+        yield f"  {self._heading_of_calls}: {self._entries.line(pc, self._calls.at(count))}"
 
-    def _place(self, step: Step) -> Hashable:
-        return super()._place(step), self._entries.entry_of(4 * step.before.pc), tuple(it.count for it in self._open(step)[-1:])
-
-    def _open(self, step: Step) -> Sequence[Call]:
-        return self._calls.at(step.before.count)
+    def _place(self, count: int, pc: int) -> Hashable:
+        return super()._place(count, pc), self._entries.entry_of(4 * pc), tuple(it.count for it in self._calls.at(count)[-1:])

@@ -6,8 +6,7 @@ to which turns led from it.
 """
 
 from collections import Counter, deque
-from collections.abc import Callable, Iterator
-from dataclasses import dataclass, field
+from collections.abc import Callable
 from itertools import accumulate, chain
 from operator import add, getitem, sub
 
@@ -18,8 +17,6 @@ from galluspa.engine.following import NO_CALL, TURN, Call
 WORD_BITS, WORD = 32, (1 << 32) - 1
 # The most contexts that are kept besides those that are open.
 MOST_CONTEXTS = 1 << 16
-# Calls that are deeper, or that would make more nodes of a tree that is shown, count for their callers there.
-DEEPEST, MOST_NODES = 256, 100_000
 # A word of a call, and the one that it goes to.
 Site = tuple[int, int]
 Edge = tuple[Procedure, Procedure]
@@ -75,36 +72,17 @@ class Context:
         return found
 
 
-@dataclass
-class Node:
-    """A procedure as it is called from another node of the tree that is shown: the instructions that were done in it."""
-
-    procedure: Procedure
-    count: int = 0
-    nodes: "dict[Procedure, Node]" = field(default_factory=dict)
-
-    def walk(self) -> "Iterator[tuple[list[Node], Node]]":
-        """Yields each node of the tree, with the nodes that lead to it, from the top."""
-        left: list[tuple[list[Node], Node]] = [([], self)]
-        while left:
-            path, node = left.pop()
-            yield path, node
-            left += [([*path, node], it) for it in reversed(list(node.nodes.values()))]
-
-
 class Totals:
     """What a run takes in calls: of procedures, of calls of one by another, and of calls by a word, the instructions that are done
-    while such a call is open; how often each word called a procedure; and the tree of procedures."""
+    while such a call is open; and how often each word called a procedure."""
 
-    def __init__(self, procedure_of: Callable[[int], Procedure], top: Procedure) -> None:
-        """Which procedure a word is in, and what the top of the tree is called."""
+    def __init__(self, procedure_of: Callable[[int], Procedure]) -> None:
+        """Which procedure a word is in."""
         self.inclusive: Counter[Procedure] = Counter()
         self.of_edges: Counter[Edge] = Counter()
         self.of_sites: Counter[tuple[int, Procedure]] = Counter()
         self.calls: Counter[tuple[int, Procedure]] = Counter()
-        self.top = Node(top)
         self._procedure_of = procedure_of
-        self._nodes = 0
 
     def add(self, top: Context) -> None:
         """Adds what was noted in a context without calls, and in all that come from it."""
@@ -114,9 +92,9 @@ class Totals:
             if it.parent:
                 whole[it.parent] += whole[it]
         opened: Counter[object] = Counter()
-        left: list[tuple[Context, Node, bool]] = [(top, self.top, False)]
+        left = [(top, False)]
         while left:
-            it, node, is_done = left.pop()
+            it, is_done = left.pop()
             caller, called = (self._procedure_of(word) for word in it.site) if it.parent else (None, None)
             keys = (called, (caller, called), (it.site[0], called)) if called else ()
             if is_done:
@@ -127,19 +105,8 @@ class Totals:
                     sums[key] += 0 if opened[key] else whole[it]  # type: ignore[index]
                 opened.update(keys)
                 self.calls[it.site[0], called] += it.calls
-                node = self._child(node, called, it.depth)
-            node.count += it.steps
-            left.append((it, node, True))
-            left += [(child, node, False) for child in it.children.values()]
-
-    def _child(self, node: Node, procedure: Procedure, depth: int) -> Node:
-        """Returns the node of a procedure that is called from another."""
-        if procedure not in node.nodes:
-            if depth > DEEPEST or self._nodes >= MOST_NODES:
-                return node
-            self._nodes += 1
-            node.nodes[procedure] = Node(procedure)
-        return node.nodes[procedure]
+            left.append((it, True))
+            left += [(child, False) for child in it.children.values()]
 
 
 class CallTree:

@@ -1,7 +1,4 @@
-"""Code coverage: which words, source lines, branches and procedures of the recorded program runs execute.
-
-Coverage of the machine's instruction set is another thing, of which `coverage.py` is.
-"""
+"""Code coverage: which words, source lines, branches and procedures of the recorded program runs execute."""
 
 from collections.abc import Iterable, Iterator, Sequence
 from dataclasses import dataclass, field
@@ -138,26 +135,6 @@ class CodeCoverage:
             if bool(branch.taken) != bool(branch.passed):
                 never, times = ("not taken", branch.taken) if branch.taken else ("taken", branch.passed)
                 yield f"never {never}: the branch at {self.place(branch.at)}, executed {times:,} times"
-
-    def as_object(self) -> dict[str, object]:
-        """Returns the coverage for other programs: numbers and names alone."""
-        return {
-            "instructions": self.seen.instructions,
-            "changed": sorted(self.seen.changed),
-            "procedures": [self._procedure(it) for it in self.covered],
-        }
-
-    def _procedure(self, it: Covered) -> dict[str, object]:
-        """Returns the coverage of a procedure for other programs."""
-        return {
-            "name": it.procedure.name,
-            "module": it.procedure.module,
-            "entered": it.entered,
-            "instructions": it.instructions,
-            "words": [[at, count] for at, count in it.visits.items()],
-            "lines": [[file, line, count] for (file, line), count in it.lines.items()],
-            "branches": [[branch.at, branch.taken, branch.passed] for branch in it.branches],
-        }
 
     def lcov(self) -> Iterator[str]:
         """Yields the coverage as lines of a tracefile of lcov, for the lines of sources that are known."""

@@ -8,7 +8,7 @@ from collections.abc import Iterable, Iterator, Sequence
 from dataclasses import dataclass
 from time import monotonic
 
-from galluspa.analysis.film import HEAD, HEIGHT, ROW, WIDTH
+from galluspa.formats.screens import HEAD, HEIGHT, ROW, WIDTH
 from galluspa.analysis.rawconditions import CHANGE, Condition, Raw
 from galluspa.analysis.search import array_of
 from galluspa.engine.following import NO_CALL, Follower

@@ -10,7 +10,7 @@ from dataclasses import dataclass, field, replace
 
 from galluspa.analysis.calls import Calls
 from galluspa.analysis.drawing import Dots, dots_differing
-from galluspa.analysis.film import HEAD, HEIGHT, ROW, WIDTH
+from galluspa.formats.screens import HEAD, HEIGHT, ROW, WIDTH
 from galluspa.analysis.inspection import screen_of, stack_line
 from galluspa.analysis.lastwrites import LastWrite, last_write
 from galluspa.analysis.naming import named_row, placed_lines

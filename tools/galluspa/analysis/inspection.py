@@ -4,9 +4,9 @@
 """
 
 import struct
-from collections.abc import Iterator, Mapping, Sequence
+from collections.abc import Iterator, Sequence
 
-from galluspa.analysis.film import HEAD, picture
+from galluspa.formats.screens import HEAD, picture
 from galluspa.analysis.calls import Calls
 from galluspa.analysis.entries import Entries
 from galluspa.analysis.naming import with_remark
@@ -110,14 +110,6 @@ def _returning(address: int, word: int, calls: Sequence[Call]) -> Call | None:
     return call if call and word == 4 * call.back else None
 
 
-def call_objects(calls: Sequence[Call], entries: Entries) -> list[dict[str, object]]:
-    """Returns open calls for machines, the last one first: the words as their numbers, R14, and the name of the return address."""
-    return [
-        {"count": it.count, "at": it.at, "to": it.to, "back": it.back, "R14": it.sp, "name": entries.text_after_call(4 * it.back)}
-        for it in reversed(calls)
-    ]
-
-
 def instruction_lines(machine: Machine, first: int, number: int, symbols: Symbols) -> Iterator[str]:
     """Yields instructions from a word on, with an arrow at the one that the machine does next."""
     for at in range(first, min(first + number, WORDS)):
@@ -154,35 +146,3 @@ def screen_lines(pbm: bytes) -> Iterator[str]:
     while lines and not lines[-1]:
         lines.pop()
     yield from lines or ["the screen is empty"]
-
-
-def as_object(machine: Machine, symbols: Symbols) -> dict[str, object]:
-    """Returns a machine without its memory, for machines: the parts of its state as numbers, its next instruction, and
-    names beside them if there are any."""
-    state = machine.seen()
-    word = machine.words[state.pc] if state.pc < WORDS else None
-    parts: dict[str, object] = {
-        "count": state.count,
-        **states.values(state),
-        "word": word,
-        "instruction": None if word is None else instruction(word, state.pc).mnemonic,
-    }
-    names = _names(state, symbols)
-    return {**parts, "names": names} if symbols else parts
-
-
-def _names(state: Checkpoint, symbols: Symbols) -> Mapping[str, str]:
-    """Returns the names of the addresses in registers and of the program counter, and the line of the source."""
-    pairs = zip(states.REGISTERS, state.registers, strict=True)
-    names = {name: held_name(name, value, symbols) for name, value in pairs}
-    names |= {"PC": symbols.text(4 * state.pc), "source": symbols.source(4 * state.pc)}
-    return {part: name for part, name in names.items() if name}
-
-
-def memory_objects(machine: Machine, address: int, number: int, symbols: Symbols) -> Sequence[dict[str, object]]:
-    """Returns words of memory for machines, each with its address, and with its name beside it if it has one."""
-    found = []
-    for at in range(address // 4, min(address // 4 + number, WORDS)):
-        name = symbols.text(4 * at)
-        found.append({"address": 4 * at, "word": machine.words[at], **({"name": name} if name else {})})
-    return found

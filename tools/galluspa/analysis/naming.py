@@ -7,7 +7,7 @@ own.
 import re
 from collections.abc import Iterator, Sequence
 
-from galluspa.engine.tracing import Step, as_object, lines
+from galluspa.engine.tracing import Step, lines
 from galluspa.formats.instructions import address, is_branch, is_store
 from galluspa.formats.symbols import Symbols
 
@@ -64,18 +64,3 @@ def named_row(row: Sequence[str], symbols: Symbols) -> Sequence[str]:
     """Returns a row of a part and of its values, with what a symbol file says of them after it."""
     part, *values, last = row
     return (part, *values, with_remark(last, remark_on_part(part, [*values, last], symbols)))
-
-
-def named_object(step: Step, symbols: Symbols) -> dict[str, object]:
-    """Returns an instruction for machines, with a member for names if there are any: those of the PC, of the line of
-    the source, of where a branch goes, and of the address of a load or a store."""
-    if not symbols:
-        return as_object(step)
-    at = 4 * step.before.pc
-    names = {
-        "PC": symbols.text(at),
-        "source": symbols.source(at),
-        "target": _target(step, symbols),
-        "address": _accessed(step, symbols),
-    }
-    return {**as_object(step), "names": {part: name for part, name in names.items() if name}}

@@ -5,7 +5,7 @@ are done while a call of it is open, by the library's definition of a call (call
 """
 
 from collections import Counter
-from collections.abc import Callable, Iterator
+from collections.abc import Callable
 from dataclasses import dataclass
 from functools import cache, cached_property
 
@@ -20,8 +20,6 @@ from galluspa.engine.tracing import Run
 from galluspa.formats.recording import STOPS, WORDS
 from galluspa.formats.symbols import Symbols
 
-# The top of the tree, which no call led to; what is done in it itself has this name.
-TOP, NO_CALL_NAME = Procedure(-1, "all", NO_MODULE), "(no call)"
 FETCH = STOPS.index("fetch")
 
 
@@ -91,12 +89,6 @@ class Profile:
         rows = [Row(it, self.own[it], inclusive.get(it, 0), called[it]) for it in {*self.own, *inclusive}]
         return sorted(rows, key=lambda it: (-it.own, it.procedure))
 
-    def stacks(self) -> Iterator[tuple[list[str], int]]:
-        """Yields the names of each stack of procedures, and its instructions."""
-        for path, node in self.totals.top.walk():
-            if node.count:
-                yield [it.procedure.name for it in [*path, node][1:]] or [NO_CALL_NAME], node.count
-
 
 def profile_of(
     run: Run, first: int, to: int, symbols: Symbols, limit: int = EACH_RISE, heard: Callable[[int], None] = ignore
@@ -120,7 +112,7 @@ def profile_of(
         """Returns the procedure of a word, which may be outside memory."""
         return procedures.of(at) if at < WORDS else Procedure(WORDS, NO_NAME, NO_MODULE)
 
-    totals = Totals(procedure_of, TOP)
+    totals = Totals(procedure_of)
     if tree.is_full:
         # There are many ways of calls: they are added to the totals in parts, once it is known which words are whose.
         follower = calls.follower(first)

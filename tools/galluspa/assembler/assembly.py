@@ -31,7 +31,7 @@ from galluspa.assembler.statements import (
 )
 from galluspa.assembler.tokens import Token, Wrong, wrong
 from galluspa.formats.language import LANGUAGE, MOST, advice
-from galluspa.formats.otherassemblers import REGISTERS, alike_of
+from galluspa.formats.alike import alike_of
 from galluspa.formats.recording import MEMORY_BYTES
 
 # The addresses of the device words, as the immediate operand of MOV writes them, and that of the display.
@@ -133,8 +133,6 @@ class Assembly:
 
     def _advice(self, name: str) -> str:
         """Returns what may be meant by a name that is not defined."""
-        if register := REGISTERS.get(name.upper()):
-            return f": {register}"
         if HEXADECIMAL.fullmatch(name):
             return advice("hexadecimal", name=name)
         self.suggestions += 1

@@ -9,7 +9,6 @@ from galluspa.assembler.assembly import BUILT_IN
 from galluspa.assembler.mnemonics import BRANCHES, word_of
 from galluspa.formats.instructions import instruction
 from galluspa.formats.language import LANGUAGE
-from galluspa.formats.otherassemblers import FALSE_FRIENDS
 
 HELP = LANGUAGE["help"]
 # Where this page says more of a directive.
@@ -30,7 +29,6 @@ def reference() -> str:
         "@INSTRUCTIONS@": _instructions(),
         "@BRANCHES@": _branches(),
         "@DIRECTIVES@": _directives(),
-        "@FRIENDS@": _friends(),
     }
     for name, rows in tables.items():
         text = text.replace(name, "\n".join(rows))
@@ -68,9 +66,3 @@ def _branches() -> Iterator[str]:
     for name in (it for it, (_, link) in BRANCHES.items() if not link):
         branch, call = f"{name} 2", f"BL{name[1:]} 2"
         yield f"| `{branch}` | `{word_of(branch):08X}` | `{call}` | {instruction(word_of(branch), 100).meaning} |"
-
-
-def _friends() -> Iterator[str]:
-    """Yields a line for the mnemonics of other assemblers that mean something else here."""
-    for names, here in FALSE_FRIENDS:
-        yield f"- {', '.join(f'`{name}`' for name in names.split())} there: {here}"

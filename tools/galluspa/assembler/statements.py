@@ -6,8 +6,8 @@ from itertools import pairwise
 
 from galluspa.assembler.mnemonics import BRANCHES, MNEMONICS
 from galluspa.assembler.tokens import Kind, Token, tokens_of, wrong
-from galluspa.formats.language import LANGUAGE, advice, cut
-from galluspa.formats.otherassemblers import are_alike, here_of
+from galluspa.formats.alike import are_alike
+from galluspa.formats.language import LANGUAGE, advice
 
 CONSTANT, INSTRUCTION = "=", "instruction"
 ORIGIN, OFFSETS, WORD, BYTE, STRING, INCLUDE = LAYING = tuple[str, ...](LANGUAGE["directives"])
@@ -116,11 +116,8 @@ def _what(name: Token, rest: Sequence[Token]) -> str:
         return INSTRUCTION
     if name.text.lower() in DIRECTIVES:
         return name.text.lower()
-    here = here_of(name.text.upper())
-    if not here and rest and rest[0].text.upper() == "EQU":
-        here = f"{cut(name.text)} = VALUE"
     meant = next((other for other in _FIRST_WORDS if rest and are_alike(name.text, other)), "")
-    said = advice("elsewhere", here=here) if here else advice("meant", meant=meant) if meant else advice("label")
+    said = advice("meant", meant=meant) if meant else advice("label")
     raise wrong(name.column, "statement", name=name.text, advice=said)
 
 

@@ -5,7 +5,6 @@ from dataclasses import dataclass
 from enum import Enum, auto
 
 from galluspa.formats.language import LANGUAGE, MOST, mistake
-from galluspa.formats.otherassemblers import SIGNS
 
 DIGITS = MOST["digits"]
 ESCAPES: dict[str, int] = LANGUAGE["escapes"]
@@ -80,7 +79,7 @@ def _unknown(sign: str) -> str:
         return mistake("stringEnd")
     if sign == "'":
         return mistake("character")
-    return mistake("sign", sign=repr(sign), advice=f": {SIGNS[sign]}" if sign in SIGNS else "")
+    return mistake("sign", sign=repr(sign))
 
 
 def _token(group: str, text: str, column: int) -> Token:

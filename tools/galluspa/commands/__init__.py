@@ -50,7 +50,7 @@ class Command:
         return parser
 
 
-# The one list of the subcommands: for the help, the manual page and the completion. tools/README.md says which page shows each.
+# The one list of the subcommands. tools/README.md says which page shows each.
 GROUPS = {
     "Check, record and run": (
         Command(CHECK, "print the verdict lines of recordings; `galluspa FILE ..` does the same"),
@@ -63,11 +63,10 @@ GROUPS = {
         Command("assemble", "assemble a source into a session, a memory image or a list of its words"),
         Command("session", "make a session from a memory image, registers and inputs, or from a recording"),
         Command("symbols", "make a symbol file of the modules that are loaded in a memory of Project Oberon"),
-        Command("listing", "list the instructions of a session or a recording"),
     ),
     "Look into a recording": (
-        Command("report", "make one page of a recording, to attach to a bug report"),
-        Command("recording-of", "take the recording out of a live report or an exported project"),
+        Command("report", "make the live page of a recording, to attach to a bug report"),
+        Command("recording-of", "take the recording out of a report or an exported project"),
         Command("explain", "say why a recording is false, or why a recording or a session is refused"),
         Command("find", "find when something happens in a run: the first time, the last or each"),
         Command("why", "say where a value comes from: who wrote it, from which values, who wrote these, and so on"),
@@ -77,13 +76,11 @@ GROUPS = {
         Command("profile", "print which procedures the instructions of a run go to, and who calls them"),
         Command("diff", "print the first input, checkpoint and part in which two recordings differ"),
         Command("output", "print the bytes that a recording claims were sent"),
-        Command("film", "make an animated PNG of the screen, or a picture of one checkpoint"),
     ),
     "Keep suites and compare emulators": (
         Command("suite", "check each recording under a folder, in parallel, and print TAP"),
         Command("rerun", "run stored sessions on a new image, and compare what a user sees with what was approved"),
         Command("executed", "report which procedures, lines and branches of the program suites execute"),
-        Command("coverage", "report what suites exercise of the machine's instruction set, and what not"),
         Command("bisect", "find the instruction after which another emulator and the machine differ"),
         Command("fuzz", "find a small program on which another emulator and the machine differ"),
         Command("shrink", "make a session small, as long as a command says that it is still wrong"),
@@ -91,10 +88,7 @@ GROUPS = {
         Command("slice", "cut the segments between two checkpoints out of a recording"),
         Command("claim", "change one claim of a recording"),
     ),
-    "Build from a clone": (
-        Command("package", "make a Debian package and a tarball of program, library and tools", is_of_clone=True),
-        Command("build-library", "prove the library for C and build it", is_of_clone=True),
-    ),
+    "Build from a clone": (Command("build-library", "prove the library for C and build it", is_of_clone=True),),
 }
 
 

@@ -1,6 +1,6 @@
 """Assembles sources into a session, a memory image, or a list of its words.
 
-The notation is the one that `galluspa listing` prints, with labels, constants, data, and lines that say what a session
+The notation is the one that `galluspa trace` prints, with labels, constants, data, and lines that say what a session
 needs.
 """
 

@@ -15,8 +15,6 @@ from pathlib import Path
 from textwrap import dedent
 
 from galluspa.analysis.calltrace import Trace
-from galluspa.analysis.countedcoverage import executed
-from galluspa.analysis.coverage import unexercised
 from galluspa.analysis.explanation import Difference, table
 from galluspa.analysis.naming import named_row
 from galluspa.emulators.oneshot import PLACE, Emulator, Shown, add_command, add_seconds_option, require
@@ -30,7 +28,7 @@ from galluspa.formats.builds import tell_misfit
 from galluspa.formats.sessions import COUNTS
 from galluspa.formats.symbolfiles import symbols_for
 from galluspa.formats.symbols import NONE, Symbols
-from galluspa.process.cli import Parser, Refused, progress, whole_number
+from galluspa.process.cli import Parser, Refused, progress
 
 STEPS = 10
 SECONDS = 600
@@ -98,31 +96,25 @@ def parser() -> Parser:
     )
     options.add_argument("session", metavar="SESSION", type=Path, help="a session, or a recording")
     add_command(options)
-    options.add_argument(
+    options.add_number(
         "--from",
-        metavar="N",
+        "N",
+        0,
+        COUNTS,
+        "a count at which the two are the same, such as that of the last true checkpoint (default 0)",
         dest="first",
-        type=whole_number(0, COUNTS),
         default=0,
-        help="a count at which the two are the same, such as that of the last true checkpoint (default 0)",
     )
-    options.add_argument(
-        "--to", metavar="N", type=whole_number(1, COUNTS), help="the last count to try (default: that of the last checkpoint)"
-    )
-    options.add_argument(
+    options.add_number("--to", "N", 1, COUNTS, "the last count to try (default: that of the last checkpoint)")
+    options.add_number(
         "--every",
-        metavar="N",
-        type=whole_number(1, COUNTS),
-        help="try every N-th count instead of 1, 2, 4, 8 .. and those after the inputs; with 1, which "
+        "N",
+        1,
+        COUNTS,
+        "try every N-th count instead of 1, 2, 4, 8 .. and those after the inputs; with 1, which "
         f"is the default up to count {SHORT:,}, the tool finds the very first difference",
     )
-    options.add_argument(
-        "--steps",
-        metavar="M",
-        type=whole_number(1, 1 << 20),
-        default=STEPS,
-        help=f"print the last M instructions up to it (default {STEPS})",
-    )
+    options.add_number("--steps", "M", 1, 1 << 20, f"print the last M instructions up to it (default {STEPS})", default=STEPS)
     add_seconds_option(options, "--seconds", SECONDS)
     options.add_symbols_option()
     options.add_machine_options()
@@ -158,27 +150,6 @@ def sameness(asked: int, to: int, tried: int, inputs: int) -> str:
     of which there are `inputs`."""
     line = f"the same at {to}, and at each of the {asked} counts that were looked at"
     return f"{line}; {tried:,} of {inputs:,} counts after inputs are among them" if tried < inputs else line
-
-
-def not_exercised(run: Run, first: int, to: int) -> Iterator[str]:
-    """Yields the lines that say which instructions a run from a count up to another does not do, so that the comparison says
-    nothing of them."""
-    progress("looking at what the run exercises")
-    try:
-        found = executed(run, to, first)
-    except Refused as refusal:
-        yield f"what the run exercises is not known: {refusal}"
-        return
-    finally:
-        progress("")
-    rows = list(unexercised(found.rows))
-    if rows:
-        number = to - first
-        all_of_them = f"of the {number:,} instructions"
-        some = f"of the {found.looked_at:,} instructions that were looked at, of {number:,},"
-        yield f"none {all_of_them if found.looked_at == number else some} is one of these:"
-        yield from (f"{name}: {', '.join(names)}" for name, names in rows)
-        yield "the recordings of examples/suite exercise them all (docs/testing-an-emulator.md says how to run an emulator on them)"
 
 
 def report(search: Search, parted: Look, steps: int, symbols: Symbols = NONE) -> Iterator[str]:
@@ -241,8 +212,7 @@ def main(asked: Namespace) -> int:
     tried = some_of(inputs)
     parted = search.narrow(counts_of(asked.first, to, asked.every, tried))
     if not parted:
-        print(sameness(search.asked, to, len(tried), len(set(inputs))), flush=True)
-        print("\n".join(not_exercised(search.run, asked.first, to)))
+        print(sameness(search.asked, to, len(tried), len(set(inputs))))
         return 0
     print("\n".join(report(search, parted, asked.steps, symbols)))
     return 1

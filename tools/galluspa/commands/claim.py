@@ -9,7 +9,7 @@ from galluspa.formats import recording
 from galluspa.formats.recording import Checkpoint
 from galluspa.formats.sessions import CHECKPOINTS
 from galluspa.formats.states import REGISTERS, WORDS
-from galluspa.process.cli import Parser, Refused, number, read_file, whole_number, write_bytes
+from galluspa.process.cli import Parser, Refused, number, read_file, write_bytes
 
 
 def parser() -> Parser:
@@ -18,7 +18,7 @@ def parser() -> Parser:
         "galluspa claim examples/face.orsr --at 1 --set R5=9 > false.orsr",
     )
     options.add_argument("recording", metavar="RECORDING", type=Path)
-    options.add_argument("--at", metavar="K", type=whole_number(0, CHECKPOINTS), required=True, help="the number of the checkpoint")
+    options.add_number("--at", "K", 0, CHECKPOINTS, "the number of the checkpoint", required=True)
     options.add_argument(
         "--set",
         metavar="NAME=VALUE",

@@ -4,7 +4,6 @@ The machine is that of the recording's initial state and inputs, whatever its ch
 no line differs, 1 if one does, and 2 for bad input.
 """
 
-import json
 import sys
 from argparse import Namespace
 from collections.abc import Iterable, Iterator
@@ -14,7 +13,7 @@ from textwrap import dedent
 from typing import BinaryIO
 
 from galluspa.analysis.explanation import NOT_SOUGHT, table
-from galluspa.analysis.naming import named_object, named_row, placed_lines
+from galluspa.analysis.naming import named_row, placed_lines
 from galluspa.emulators.tracecomparison import Compared, Difference, Gave, Parted, compare, gave
 from galluspa.engine.library import Library
 from galluspa.engine.tracing import Run
@@ -23,7 +22,7 @@ from galluspa.formats.sessions import COUNTS
 from galluspa.formats.symbolfiles import symbols_for
 from galluspa.formats.symbols import Symbols
 from galluspa.formats.tracefiles import ADDRESS, COUNT, LONGEST_LINE, Form, TraceFile
-from galluspa.process.cli import OK, WRONG, Parser, Refused, complain, opened_file, progress, read_file, whole_number
+from galluspa.process.cli import OK, WRONG, Parser, Refused, complain, opened_file, progress, read_file
 from galluspa.process.escapes import printable
 from galluspa.process.timelimit import Limit
 
@@ -54,14 +53,7 @@ def parser() -> Parser:
         help="a file; without one, or as -, standard input, also while the emulator still runs",
     )
     options.add_argument("--hex", action="store_true", help="all numbers but those of the column count are hexadecimal")
-    options.add_argument(
-        "--from",
-        metavar="N",
-        dest="first",
-        type=whole_number(0, COUNTS),
-        help=f"the count of the first line, without a column {COUNT} (default 0)",
-    )
-    options.add_argument("--json", action="store_true", help="print what was found as one JSON object")
+    options.add_number("--from", "N", 0, COUNTS, f"the count of the first line, without a column {COUNT} (default 0)", dest="first")
     options.add_symbols_option()
     options.add_limit_option("end after this many seconds of the machine, and say how far it came")
     options.add_library_option()
@@ -140,25 +132,6 @@ def _instructions(found: Gave, symbols: Symbols) -> Iterator[str]:
         yield from it.lines(symbols) if it else []
 
 
-def as_object(run: Run, trace: TraceFile, compared: Compared, symbols: Symbols) -> dict[str, object]:
-    """Returns the same for other programs."""
-    parted = compared.parted
-    summary: dict[str, object] = {"lines": compared.lines, "is_same": parted is None, "not_compared": trace.header.unknown}
-    if parted is None:
-        return summary
-    found = gave(run, trace, parted)
-    return {
-        **summary,
-        "line": parted.row.number,
-        "count": parted.row.at,
-        "same_at": parted.before.at if parted.before else None,
-        "differs": {it.name: [it.trace, it.machine] for it in parted.differences},
-        "machine": named_object(found.step, symbols) if found else None,
-        "trace": found.trace_object() if found else None,
-        "written_by": {name: named_object(it.step, symbols) if it else None for name, it in found.written} if found else {},
-    }
-
-
 def main(asked: Namespace) -> int:
     """Prints where a trace and the machine differ; the status says whether they do."""
     library = Library.find(asked.library, Limit(asked.limit))
@@ -168,8 +141,5 @@ def main(asked: Namespace) -> int:
     trace = trace_of(asked)
     compared = compare(run, trace, lambda count: progress(f"the same up to {count:,}"))
     progress("")
-    if asked.json:
-        print(json.dumps(as_object(run, trace, compared, symbols)))
-    else:
-        print("\n".join(report(run, trace, compared, symbols)))
+    print("\n".join(report(run, trace, compared, symbols)))
     return WRONG if compared.parted else OK

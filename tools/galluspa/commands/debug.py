@@ -21,7 +21,7 @@ from galluspa.engine.opening import opened
 from galluspa.engine.tracing import add_workers_option
 from galluspa.formats.sessions import COUNTS
 from galluspa.formats.sourcetext import Sources, add_directory_option
-from galluspa.process.cli import FAILED, OK, REFUSED, Failed, Parser, Refused, complain, read_file, whole_number
+from galluspa.process.cli import FAILED, OK, REFUSED, Failed, Parser, Refused, complain, read_file
 from galluspa.process.escapes import printable
 from galluspa.process.timelimit import TimeIsUp
 
@@ -65,7 +65,7 @@ def parser() -> Parser:
         help="carry out a command; repeatable, and with -x, in their order",
     )
     options.add_argument("--batch", action="store_true", help="end after these commands, or with status 2 at the first error")
-    options.add_argument("--at", metavar="N", type=whole_number(0, COUNTS), default=0, help="the count to begin at (default 0)")
+    options.add_number("--at", "N", 0, COUNTS, "the count to begin at (default 0)", default=0)
     add_directory_option(options, "sources")
     add_stack_limit_option(options)
     options.add_symbols_option()

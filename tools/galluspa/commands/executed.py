@@ -5,7 +5,6 @@ with its inputs, whatever its checkpoints claim.
 """
 
 import contextlib
-import json
 import sys
 from argparse import Namespace
 from dataclasses import dataclass
@@ -20,7 +19,7 @@ from galluspa.engine.tracing import Run
 from galluspa.formats.builds import tell_misfit
 from galluspa.formats.symbolfiles import symbols_for
 from galluspa.process.children import in_parallel
-from galluspa.process.cli import OK, WRONG, Output, Parser, Refused, complain, progress, with_libraries, write_file
+from galluspa.process.cli import OK, WRONG, Output, Parser, Refused, progress, write_file
 from galluspa.process.escapes import printable
 from galluspa.process.timelimit import Limit, TimeIsUp
 from galluspa.suites.cases import Case, cases_of
@@ -34,9 +33,8 @@ def parser() -> Parser:
             Prints the code coverage of suites: which words, source lines, branches and procedures of the
             recorded program the recordings (*.orsr) under folders execute, how often, and which none
             executes. The counts are exact. Each recording is run from its initial state, whatever it claims;
-            `galluspa suite` checks it. Coverage of the machine's instruction set is another thing:
-            `galluspa coverage` reports which operations and devices a suite exercises. A symbol file adds
-            names and source lines (docs/symbols.md); without it, procedures are known by their addresses."""
+            `galluspa suite` checks it. A symbol file adds names and source lines (docs/symbols.md); without it,
+            procedures are known by their addresses."""
         ),
         "galluspa executed examples/suite/programs",
         {OK: "all recordings are counted", WRONG: "a recording is not counted, and a line says why"},
@@ -44,7 +42,6 @@ def parser() -> Parser:
     options.add_argument("suites", metavar="SUITE", type=Path, nargs="+", help="a folder of recordings, or a recording")
     add_jobs_option(options, "run")
     options.add_symbols_option()
-    options.add_argument("--json", action="store_true", help="print the counts as JSON")
     options.add_argument(
         "--info",
         metavar="FILE",
@@ -52,7 +49,6 @@ def parser() -> Parser:
         help="write the counts of source lines as a tracefile of lcov, which genhtml and CI systems read; "
         "the symbol file has to have lines",
     )
-    options.add_argument("--page", metavar="FILE", type=Output, help="write the counts as one page (HTML)")
     options.add_limit_option("end after this many seconds, and name the recordings that were not counted by then")
     options.add_library_option()
     return options
@@ -102,20 +98,8 @@ def first_memory(library: Library, wanted: list[Case]) -> bytes:
     return b""
 
 
-def write(asked: Namespace, summary: str, unread: list[str], found: CodeCoverage) -> None:
-    """Writes the files of the options."""
-    if asked.info:
-        write_file(asked.info, "".join(f"{line}\n" for line in found.lcov()).encode())
-    if asked.page:
-        name = printable(" ".join(path.resolve().name for path in asked.suites))
-        pieces = with_libraries("galluspa.output.codecoveragepage").page(name, summary, unread, found)
-        write_file(asked.page, "".join(pieces).encode())
-
-
 def main(asked: Namespace) -> int:
     """Prints what the recordings of suites execute; the status is 1 if one of them was not counted."""
-    if asked.page:
-        with_libraries("galluspa.output.codecoveragepage")
     wanted = cases(asked.suites)
     symbols = symbols_for(asked.symbols, *(it.path for it in wanted))
     if asked.info and not symbols.has_lines:
@@ -127,11 +111,7 @@ def main(asked: Namespace) -> int:
     if symbols and not any(symbols.text(4 * at) for at in seen.visits):
         raise Refused(f"{symbols.origin} names nothing that is executed: are these the names of another program?")
     summary = f"{len(wanted) - len(unread):,} recordings, {seen.instructions:,} instructions at {len(seen.visits):,} words"
-    if asked.json:
-        print(json.dumps({"recordings": len(wanted) - len(unread), "not counted": unread, **found.as_object()}))
-    else:
-        sys.stdout.writelines(f"{line}\n" for line in [summary, *(f"not counted: {it}" for it in unread), *found.text()])
-    write(asked, summary, unread, found)
-    for it in unread if asked.json else ():
-        complain(it)
+    sys.stdout.writelines(f"{line}\n" for line in [summary, *(f"not counted: {it}" for it in unread), *found.text()])
+    if asked.info:
+        write_file(asked.info, "".join(f"{line}\n" for line in found.lcov()).encode())
     return WRONG if unread else OK

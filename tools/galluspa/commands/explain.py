@@ -23,7 +23,7 @@ from galluspa.formats.sessionfaults import is_session
 from galluspa.formats.sessions import COUNTS
 from galluspa.formats.symbolfiles import symbols_for
 from galluspa.formats.symbols import Symbols
-from galluspa.process.cli import OK, REFUSED, WRONG, Parser, read_file, whole_number
+from galluspa.process.cli import OK, REFUSED, WRONG, Parser, read_file
 from galluspa.process.timelimit import Limit, TimeIsUp
 
 STEPS = 1000
@@ -46,21 +46,16 @@ def parser() -> Parser:
         },
     )
     options.add_argument("recording", metavar="FILE", type=Path, help="a recording, or a session")
-    options.add_argument(
+    options.add_number(
         "--steps",
-        metavar="N",
-        type=whole_number(1, COUNTS),
-        default=STEPS,
-        help=f"examine N instructions before the false checkpoint one by one, and a tenth of that after "
+        "N",
+        1,
+        COUNTS,
+        f"examine N instructions before the false checkpoint one by one, and a tenth of that after "
         f"it (default {STEPS:,}; some ten thousand take a second)",
+        default=STEPS,
     )
-    options.add_argument(
-        "--words",
-        metavar="N",
-        type=whole_number(0, WORDS),
-        default=WORDS_SHOWN,
-        help=f"print at most N words of memory (default {WORDS_SHOWN})",
-    )
+    options.add_number("--words", "N", 0, WORDS, f"print at most N words of memory (default {WORDS_SHOWN})", default=WORDS_SHOWN)
     options.add_symbols_option()
     options.add_limit_option("end after this many seconds, with what was found by then")
     options.add_machine_options()

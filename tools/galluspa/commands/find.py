@@ -12,6 +12,7 @@ from pathlib import Path
 from textwrap import dedent
 
 from galluspa.analysis.conditions import CONDITIONS, conditions_of
+from galluspa.analysis.naming import placed_lines
 from galluspa.analysis.search import Hit, Search
 from galluspa.engine.library import Library
 from galluspa.engine.opening import count_asked
@@ -21,8 +22,8 @@ from galluspa.formats.builds import tell_misfit
 from galluspa.formats.sessions import COUNTS
 from galluspa.formats.symbolfiles import symbols_for
 from galluspa.formats.symbols import Symbols
-from galluspa.output.traceformats import JsonLines, TextLines
-from galluspa.process.cli import FAILED, OK, WRONG, Parser, Refused, complain, whole_number
+from galluspa.output.traceformats import JsonLines
+from galluspa.process.cli import FAILED, OK, WRONG, Parser, Refused, complain
 from galluspa.process.timelimit import Limit, TimeIsUp
 
 MOST = 1000
@@ -44,18 +45,12 @@ def parser() -> Parser:
     )
     options.add_argument("recording", metavar="RECORDING", type=Path)
     options.add_argument("condition", metavar="CONDITION", nargs="+", help="a condition, as above")
-    options.add_argument(
-        "--from", metavar="N", dest="first", type=whole_number(0, COUNTS), default=0, help="the count to begin at (default 0)"
-    )
-    options.add_argument(
-        "--to", metavar="N", type=whole_number(0, COUNTS), help="end count, exclusive (default: that of the last checkpoint)"
-    )
+    options.add_number("--from", "N", 0, COUNTS, "the count to begin at (default 0)", dest="first", default=0)
+    options.add_number("--to", "N", 0, COUNTS, "end count, exclusive (default: that of the last checkpoint)")
     which = options.add_mutually_exclusive_group()
     which.add_argument("--last", action="store_true", help="find the last instruction")
     which.add_argument("--all", action="store_true", help="find all instructions, in the order of their counts")
-    options.add_argument(
-        "--most", metavar="N", type=whole_number(1, COUNTS), help=f"with --all, print at most N (default {MOST:,})"
-    )
+    options.add_number("--most", "N", 1, COUNTS, f"with --all, print at most N (default {MOST:,})")
     options.add_symbols_option()
     options.add_argument("--json", action="store_true", help="print one JSON object per line")
     add_workers_option(options)
@@ -96,8 +91,7 @@ def hits_of(search: Search, asked: Namespace) -> Iterator[Hit]:
 
 def text_of(symbols: Symbols) -> Callable[[Hit], str]:
     """How a hit is shown: the lines of its instruction."""
-    lines = TextLines(symbols).lines
-    return lambda hit: lines(hit.raw)
+    return lambda hit: "\n".join(placed_lines(hit.step, symbols))
 
 
 def json_of(symbols: Symbols) -> Callable[[Hit], str]:

@@ -5,7 +5,6 @@ argument has {count} in it, a command for each session that prints its state, as
 0 if both are the same in all sessions, 1 if they differ in one, and 2 for bad input.
 """
 
-import json
 import os
 import sys
 import time
@@ -15,38 +14,20 @@ from contextlib import closing
 from dataclasses import dataclass, field
 from pathlib import Path
 from textwrap import dedent
-from xml.etree import ElementTree
 
-from galluspa.analysis.coverage import CELLS
 from galluspa.emulators.fuzzing import Broken, Plan, Tally, compared
-from galluspa.emulators.fuzzreports import FETCH, Finding
+from galluspa.emulators.fuzzreports import Finding
 from galluspa.emulators.oneshot import PLACE, add_command, add_seconds_option
 from galluspa.emulators.trialruns import MEMORY, RECORDING, SESSION, TrialRunner, other_of
 from galluspa.emulators.trials import Trial
 from galluspa.engine.library import Library
 from galluspa.formats import states
-from galluspa.formats.instructions import CONDITIONS, OPERATIONS
-from galluspa.output.coveragetext import lines
-from galluspa.process.cli import (
-    OK,
-    WRONG,
-    Failed,
-    Output,
-    Parser,
-    Refused,
-    complain,
-    progress,
-    whole_number,
-    with_libraries,
-    write_file,
-)
-from galluspa.process.escapes import for_tap, printable
+from galluspa.process.cli import OK, WRONG, Failed, Parser, Refused, progress, write_file
+from galluspa.process.escapes import printable
 from galluspa.process.temporary import temporary_folder
 from galluspa.process.timelimit import Limit
 
 SECONDS, ANSWER_SECONDS, SESSIONS, SEEDS = 60, 10, 1 << 40, 1 << 32
-# What TAP and JUnit have a test of each: the instructions by their names, and the fetch of no word.
-TESTS = [*OPERATIONS, "LDR", "LDB", "STR", "STB", *(f"B{name}" for name in CONDITIONS), FETCH]
 PARTS = [*states.REGISTERS, *states.WORDS, "keys", "out", "memory"]
 # What it is kept of a session that the other emulator does not answer.
 UNANSWERED = "unanswered.json"
@@ -69,18 +50,6 @@ class Result:
         tally = self.tally
         return f"seed {self.seed}: {tally.trials:,} sessions, {tally.instructions:,} instructions in {self.seconds:.0f} s, {found}"
 
-    def of_test(self, name: str) -> list[tuple[Finding, Path]]:
-        """Returns the differences after instructions of a name."""
-        return [it for it in self.found if it[0].key[0] == name]
-
-    def is_exercised(self, name: str) -> bool:
-        """Returns whether a measured session has such an instruction."""
-        tables = ("operations", "memory", "branches")
-        fetches = ("stops", "fetch, by a branch", "stopped")
-        if name == FETCH:
-            return bool(self.tally.seen.times[fetches])
-        return any(self.tally.seen.times[cell] for cell in CELLS if cell[0] in tables and cell[1] == name)
-
 
 def parser() -> Parser:
     options = Parser(
@@ -97,25 +66,14 @@ def parser() -> Parser:
         {OK: "both are the same in all sessions", WRONG: "they differ in a session"},
     )
     add_command(options)
-    options.add_argument(
-        "--seconds", metavar="S", type=whole_number(1, 1 << 30), default=SECONDS, help=f"end after S seconds (default {SECONDS})"
+    options.add_number("--seconds", "S", 1, 1 << 30, f"end after S seconds (default {SECONDS})", default=SECONDS)
+    options.add_number("--seed", "N", 0, SEEDS - 1, "make the sessions of a seed again")
+    options.add_number("--from", "K", 0, SESSIONS, "begin with session K (default 0)", dest="first", default=0)
+    options.add_number("--sessions", "N", 1, SESSIONS, "end after N sessions")
+    options.add_number(
+        "-j", "N", 1, 256, "run N processes in parallel (default: the number of CPUs)", dest="jobs", default=os.cpu_count() or 1
     )
-    options.add_argument("--seed", metavar="N", type=whole_number(0, SEEDS - 1), help="make the sessions of a seed again")
-    options.add_argument(
-        "--from", metavar="K", dest="first", type=whole_number(0, SESSIONS), default=0, help="begin with session K (default 0)"
-    )
-    options.add_argument("--sessions", metavar="N", type=whole_number(1, SESSIONS), help="end after N sessions")
-    options.add_argument(
-        "-j",
-        metavar="N",
-        dest="jobs",
-        type=whole_number(1, 256),
-        default=os.cpu_count() or 1,
-        help="run N processes in parallel (default: the number of CPUs)",
-    )
-    options.add_argument(
-        "--most", metavar="N", type=whole_number(1, 1000), default=1, help="stop after N distinct differences (default 1)"
-    )
+    options.add_number("--most", "N", 1, 1000, "stop after N distinct differences (default 1)", default=1)
     options.add_argument(
         "--ignore",
         metavar="PART",
@@ -128,8 +86,6 @@ def parser() -> Parser:
     options.add_argument(
         "-o", metavar="FOLDER", dest="folder", type=Path, default=Path("fuzz"), help="output folder (default: fuzz)"
     )
-    options.add_argument("--tap", action="store_true", help="print TAP, a test for each instruction")
-    options.add_argument("--junit", metavar="FILE", type=Output, help="write these tests as JUnit XML, which CI systems read")
     options.add_library_option()
     return options
 
@@ -209,58 +165,16 @@ def leave(finding: Finding, folder: Path) -> Path:
     made(own)
     for name, content in finding.files().items():
         write_file(own / name, content)
-    try:
-        page = with_libraries("galluspa.output.pages").generated("finding.html.j2", it=finding)
-        write_file(own / "difference.html", "".join(page).encode())
-    except Refused as refusal:
-        if isinstance(refusal, Failed):
-            raise
-        complain(f"no page is written: {refusal}")
     return own
 
 
 def text(result: Result) -> Iterator[str]:
-    """Yields what was found, and what was exercised."""
+    """Yields what was found."""
     for finding, folder in result.found:
         yield from finding.shown()
         there = ", ".join(sorted(it.name for it in folder.iterdir()))
         yield from ("", printable(f"{folder} has it: {there}"), "")
     yield result.summary
-    if not result.found:
-        measured = f"exercised, as {result.tally.measured:,} of these sessions were measured:"
-        yield from lines(measured, (), result.tally.seen, False)
-
-
-def tap(result: Result) -> Iterator[str]:
-    """Yields the same as TAP."""
-    yield from ("TAP version 13", f"1..{len(TESTS)}", f"# {result.summary}")
-    for number, name in enumerate(TESTS, 1):
-        found = result.of_test(name)
-        if not found:
-            skipped = "" if result.is_exercised(name) else " # SKIP not in the sessions that were measured"
-            yield f"ok {number} - {name}{skipped}"
-            continue
-        yield from (f"not ok {number} - {name}", "  ---")
-        for finding, folder in found:
-            yield f"  {json.dumps(for_tap(str(folder)))}: {json.dumps(finding.headline)}"
-        yield "  ..."
-
-
-def junit(result: Result) -> bytes:
-    """Returns the same as JUnit XML."""
-    wrong = sum(bool(result.of_test(name)) for name in TESTS)
-    counted = {"name": "fuzz", "tests": str(len(TESTS)), "failures": str(wrong), "time": f"{result.seconds:.3f}"}
-    top = ElementTree.Element("testsuites")
-    tests = ElementTree.SubElement(top, "testsuite", counted)
-    for name in TESTS:
-        test = ElementTree.SubElement(tests, "testcase", {"classname": "fuzz", "name": name})
-        for finding, _ in result.of_test(name):
-            ElementTree.SubElement(test, "failure", {"message": finding.headline}).text = "\n".join(finding.shown())
-        if not result.of_test(name) and not result.is_exercised(name):
-            ElementTree.SubElement(test, "skipped")
-    ElementTree.SubElement(tests, "system-out").text = result.summary
-    ElementTree.indent(top)
-    return ElementTree.tostring(top, "utf-8", xml_declaration=True) + b"\n"
 
 
 def main(asked: Namespace) -> int:
@@ -268,7 +182,5 @@ def main(asked: Namespace) -> int:
     plan = plan_of(asked)
     try_once(plan, asked.folder)
     result = compare(plan, asked)
-    sys.stdout.writelines(f"{line}\n" for line in (tap(result) if asked.tap else text(result)))
-    if asked.junit:
-        write_file(asked.junit, junit(result))
+    sys.stdout.writelines(f"{line}\n" for line in text(result))
     return WRONG if result.found else OK

@@ -8,8 +8,9 @@ from pathlib import Path
 from textwrap import dedent
 
 from galluspa.engine.program import REFUSED, Program
+from galluspa.output import live
 from galluspa.process import paths
-from galluspa.process.cli import OK, Output, Parser, Refused, read_file, with_libraries, write_file
+from galluspa.process.cli import OK, Output, Parser, Refused, read_file, write_file
 from galluspa.process.escapes import printable
 from galluspa.process.timelimit import Limit
 
@@ -20,7 +21,7 @@ def parser() -> Parser:
             """\
             Prints where the page of the live machine is, and opens it in a browser. It needs no network. With a
             recording or a session, it writes a page with the machine and this file, in a new temporary folder,
-            and opens that one: the machine is at the initial state, and Run plays the file."""
+            and opens that one: the page shows the initial state, and Play plays the file."""
         ),
         "galluspa live examples/snake.json",
         {OK: "a browser has the page"},
@@ -40,7 +41,7 @@ def page_of(asked: Namespace) -> Path:
     answer = program.check(text)
     if answer.status == REFUSED:
         raise Refused(f"{asked.file}: {answer.line}")
-    content = "".join(with_libraries("galluspa.output.live").page(printable(asked.file.name), text, answer.line)).encode()
+    content = live.page(printable(asked.file.name), answer.line, text, {"cursor": 0}).encode()
     if asked.output:
         write_file(asked.output, content)
         return Path(asked.output).resolve()

@@ -7,7 +7,7 @@ from textwrap import dedent
 
 from galluspa.engine.program import Program
 from galluspa.formats.sessions import CHECKPOINTS
-from galluspa.process.cli import Parser, Refused, read_file, whole_number, write_bytes
+from galluspa.process.cli import Parser, Refused, read_file, write_bytes
 
 
 def parser() -> Parser:
@@ -20,12 +20,7 @@ def parser() -> Parser:
         "galluspa output examples/face.orsr > sent",
     )
     options.add_argument("recording", metavar="RECORDING", type=Path)
-    options.add_argument(
-        "--at",
-        metavar="K",
-        type=whole_number(1, CHECKPOINTS),
-        help="print only the bytes sent from checkpoint K - 1 to checkpoint K",
-    )
+    options.add_number("--at", "K", 1, CHECKPOINTS, "print only the bytes sent from checkpoint K - 1 to checkpoint K")
     options.add_program_option()
     return options
 

@@ -3,7 +3,6 @@
 The library counts how often each word is executed, and follows the calls of the run. So all numbers are exact.
 """
 
-import json
 import sys
 from argparse import Namespace
 from pathlib import Path
@@ -17,8 +16,8 @@ from galluspa.formats.builds import tell_misfit
 from galluspa.formats.sessions import COUNTS
 from galluspa.formats.symbolfiles import symbols_for
 from galluspa.formats.symbols import Symbols
-from galluspa.output.profileformats import as_object, callgrind, difference, folded, text
-from galluspa.process.cli import Output, Parser, Refused, progress, read_file, whole_number, with_libraries, write_file
+from galluspa.output.profileformats import callgrind, difference, text
+from galluspa.process.cli import Output, Parser, Refused, progress, read_file, write_file
 from galluspa.process.escapes import printable
 from galluspa.process.timelimit import Limit
 
@@ -36,12 +35,8 @@ def parser() -> Parser:
         "galluspa profile examples/face.orsr --from 8000000 --to 12000000",
     )
     options.add_argument("recording", metavar="RECORDING", type=Path)
-    options.add_argument(
-        "--from", metavar="N", dest="first", type=whole_number(0, COUNTS), default=0, help="the count to begin at (default 0)"
-    )
-    options.add_argument(
-        "--to", metavar="N", type=whole_number(0, COUNTS), help="the count to end at (default: that of the last checkpoint)"
-    )
+    options.add_number("--from", "N", 0, COUNTS, "the count to begin at (default 0)", dest="first", default=0)
+    options.add_number("--to", "N", 0, COUNTS, "the count to end at (default: that of the last checkpoint)")
     options.add_argument(
         "--against",
         metavar="OTHER",
@@ -50,17 +45,12 @@ def parser() -> Parser:
     )
     add_stack_limit_option(options)
     options.add_symbols_option()
-    options.add_argument("--json", action="store_true", help="print the profile as JSON")
     options.add_argument(
         "--callgrind",
         metavar="FILE",
         type=Output,
         help="write the profile in the format of callgrind, for callgrind_annotate and KCachegrind",
     )
-    options.add_argument(
-        "--folded", metavar="FILE", type=Output, help="write the stacks as lines, for other tools that draw flame graphs"
-    )
-    options.add_argument("--page", metavar="FILE", type=Output, help="write the profile as one page (HTML) with a flame graph")
     options.add_limit_option("end after this many seconds")
     options.add_library_option()
     return options
@@ -91,23 +81,12 @@ def profiled(library: Library, path: Path, asked: Namespace, symbols: Symbols) -
 
 
 def main(asked: Namespace) -> int:
-    """Prints the profile of a recording, and writes the files of the options."""
-    page = with_libraries("galluspa.output.profilepage").page if asked.page else None
-    if asked.against and asked.json:
-        raise Refused("use --against or --json")
+    """Prints the profile of a recording, and writes the file of the option."""
     library = Library.find(asked.library, Limit(asked.limit))
     profile = profiled(library, asked.recording, asked, symbols_for(asked.symbols, asked.recording))
     other = asked.against and profiled(library, asked.against, asked, symbols_for(asked.symbols, asked.against))
-    lines = list(difference(profile, other) if other else text(profile))
-    if asked.json:
-        print(json.dumps(as_object(profile)))
-    else:
-        sys.stdout.writelines(f"{line}\n" for line in lines)
-    name = printable(asked.recording.name)
+    sys.stdout.writelines(f"{line}\n" for line in (difference(profile, other) if other else text(profile)))
     if asked.callgrind:
-        write_file(asked.callgrind, "".join(f"{line}\n" for line in callgrind(profile, name)).encode())
-    if asked.folded:
-        write_file(asked.folded, "".join(f"{line}\n" for line in folded(profile)).encode())
-    if page:
-        write_file(asked.page, "".join(page(name, profile, lines if other else ())).encode())
+        lines = callgrind(profile, printable(asked.recording.name))
+        write_file(asked.callgrind, "".join(f"{line}\n" for line in lines).encode())
     return 0

@@ -1,4 +1,4 @@
-"""Takes the recording out of a report that `galluspa report --live` made, or of a project that the live page exported.
+"""Takes the recording out of a page that `galluspa report` made, or that the live page exported.
 
 What a page from a stranger shows proves nothing, since it can show any line. The recording in it can be checked with a
 program of your own.
@@ -22,13 +22,13 @@ def parser() -> Parser:
     options = Parser(
         dedent(
             """\
-            Prints the recording that a live report or an exported project holds, as it is, so that you check it
-            with your own program. It runs nothing of the page."""
+            Prints the recording that a report or an exported project holds, as it is, so that you check it with
+            your own program. It runs nothing of the page."""
         ),
         "galluspa recording-of face.html > face.orsr",
         {OK: "the recording is printed, whatever its verdict"},
     )
-    options.add_argument("page", metavar="PAGE", type=Path, help="a page that `galluspa report --live` or the live page made")
+    options.add_argument("page", metavar="PAGE", type=Path, help="a page that `galluspa report` or the live page made")
     return options
 
 
@@ -36,7 +36,7 @@ def recording_in(name: str, page: bytes) -> bytes:
     """Returns the bytes of the recording that a page holds, whoever wrote it."""
     found = RECORDING.findall(page)
     if not found:
-        raise Refused(f"{name}: no recording in this page: galluspa report --live makes pages with one, and so does Export")
+        raise Refused(f"{name}: no recording in this page: galluspa report makes pages with one, and so does Export")
     if len(found) > 1:
         raise Refused(f"{name}: {len(found)} recordings in this page: a report or a project has one")
     unpacking = zlib.decompressobj(wbits=16 + zlib.MAX_WBITS)

@@ -19,7 +19,7 @@ from galluspa.formats.scripts import STILL
 from galluspa.formats.sessions import COUNTS
 from galluspa.formats.symbolfiles import symbols_for
 from galluspa.process.children import in_parallel
-from galluspa.process.cli import OK, WRONG, Failed, Parser, Refused, make_folder, whole_number, with_libraries, write_file
+from galluspa.process.cli import OK, WRONG, Failed, Output, Parser, Refused, make_folder, with_libraries, write_file
 from galluspa.process.escapes import printable
 from galluspa.process.timelimit import TimeIsUp
 from galluspa.suites import approvals, storedsessions
@@ -51,9 +51,7 @@ def parser() -> Parser:
         type=Path,
         help="run all on this image: the initial state of a session or a recording, or a raw image of the memory",
     )
-    options.add_argument(
-        "--at", metavar="ADDRESS", type=whole_number(0, MEMORY_BYTES), help="the byte address where a raw image begins (default 0)"
-    )
+    options.add_number("--at", "ADDRESS", 0, MEMORY_BYTES, "the byte address where a raw image begins (default 0)")
     options.add_argument(
         "--set",
         metavar="NAME=VALUE",
@@ -71,13 +69,14 @@ def parser() -> Parser:
         type=Path,
         help="the image of the version that was approved, as --image names one: say what that version did where this one differs",
     )
-    options.add_argument(
+    options.add_number(
         "--still",
-        metavar="N",
-        type=whole_number(0, COUNTS),
-        default=STILL,
-        help="of a session or a recording, look at the machine once nothing that a user sees changed for N instructions, after "
+        "N",
+        0,
+        COUNTS,
+        "of a session or a recording, look at the machine once nothing that a user sees changed for N instructions, after "
         f"its last checkpoint (default {STILL:,}); with 0, look at its last checkpoint",
+        default=STILL,
     )
     options.add_argument(
         "--polled",
@@ -93,7 +92,13 @@ def parser() -> Parser:
     )
     add_jobs_option(options, "run")
     options.add_limit_option("end the run of a session after this many seconds; it is then not as approved")
-    add_output_options(options, "each session with the screens that were approved, those of now, and what differs")
+    add_output_options(options)
+    options.add_argument(
+        "--page",
+        metavar="FILE",
+        type=Output,
+        help="write one page (HTML): each session with the screens that were approved, those of now, and what differs",
+    )
     options.add_symbols_option()
     options.add_machine_options()
     return options

@@ -9,7 +9,7 @@ from galluspa.process.cli import OK, REFUSED, Parser
 def parser() -> Parser:
     options = programcommands.parser(
         "Prints the screen that a checkpoint claims, as a binary PBM. It does not test whether the claim is true:\n"
-        "`galluspa check` does. `galluspa film --at K` makes a PNG of the screen.",
+        "`galluspa check` does. `galluspa state --screen` makes a PNG of the screen.",
         "galluspa screen --at 4 examples/face.orsr -o face.pbm",
         "RECORDING",
         {OK: "the screen is drawn", REFUSED: "the recording or an argument is refused, or it has no such checkpoint"},

@@ -16,7 +16,7 @@ from galluspa.formats.recording import MEMORY_BYTES
 from galluspa.formats.sessions import CHECKPOINTS, COUNTS, LONGEST_RUN, Session
 from galluspa.formats.symbolfiles import symbols_for
 from galluspa.formats.symbols import Symbols, address_of
-from galluspa.process.cli import Parser, Refused, complain, number, read_file, whole_number
+from galluspa.process.cli import Parser, Refused, complain, number, read_file
 
 
 def parser() -> Parser:
@@ -29,13 +29,7 @@ def parser() -> Parser:
         "galluspa session --memory memory.bin --set PC=64 --set R14=0x80000 --inputs inputs.csv --every 1000 --until " "20000",
     )
     options.add_argument("--memory", metavar="IMAGE", type=Path, help="a raw image of the initial memory, 1 MB or less")
-    options.add_argument(
-        "--at",
-        metavar="ADDRESS",
-        type=whole_number(0, MEMORY_BYTES),
-        default=0,
-        help="the byte address where the image begins (default 0)",
-    )
+    options.add_number("--at", "ADDRESS", 0, MEMORY_BYTES, "the byte address where the image begins (default 0)", default=0)
     options.add_argument(
         "--set",
         metavar="NAME=VALUE",
@@ -46,13 +40,8 @@ def parser() -> Parser:
     )
     options.add_argument("--inputs", metavar="CSV", type=Path, help="the inputs: count, kind, value per line")
     options.add_argument("--checkpoints", metavar="N,N,..", help="the counts of the checkpoints")
-    options.add_argument(
-        "--every",
-        metavar="N",
-        type=whole_number(1, COUNTS),
-        help="make a checkpoint every N instructions, up to --until or the end of the run",
-    )
-    options.add_argument("--until", metavar="N", type=whole_number(1, COUNTS), help="make the last checkpoint at N or before")
+    options.add_number("--every", "N", 1, COUNTS, "make a checkpoint every N instructions, up to --until or the end of the run")
+    options.add_number("--until", "N", 1, COUNTS, "make the last checkpoint at N or before")
     ends = options.add_mutually_exclusive_group()
     ends.add_argument(
         "--until-stops",
@@ -69,12 +58,8 @@ def parser() -> Parser:
         help="make the last checkpoint where the machine, after all inputs, enters a loop that it "
         f"never leaves, of at most {endings.LONGEST_LOOP:,} instructions",
     )
-    options.add_argument(
-        "--most",
-        metavar="N",
-        type=whole_number(1, COUNTS),
-        default=LONGEST_RUN,
-        help=f"look for the stop or the loop up to count N (default {LONGEST_RUN:,})",
+    options.add_number(
+        "--most", "N", 1, COUNTS, f"look for the stop or the loop up to count N (default {LONGEST_RUN:,})", default=LONGEST_RUN
     )
     options.add_argument("--of", metavar="RECORDING", type=Path, help="take initial state, inputs and counts from a recording")
     options.add_symbols_option()

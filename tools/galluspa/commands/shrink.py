@@ -21,7 +21,7 @@ from galluspa.engine.library import Library
 from galluspa.engine.program import Program
 from galluspa.formats import recording, sessions
 from galluspa.formats.sessions import COUNTS
-from galluspa.process.cli import OK, Output, Parser, Refused, complain, progress, whole_number, write_output
+from galluspa.process.cli import OK, Output, Parser, Refused, complain, progress, write_output
 from galluspa.process.temporary import temporary_folder
 from galluspa.process.timelimit import Limit, TimeIsUp
 
@@ -92,9 +92,7 @@ def parser() -> Parser:
     options.add_argument("session", metavar="SESSION", type=Path, help="a session, or a recording")
     add_command(options)
     options.add_argument("-o", metavar="FILE", dest="output", type=Output, help="write the session into a file")
-    options.add_argument(
-        "--to", metavar="N", type=whole_number(1, COUNTS), help="the last count (default: that of the last checkpoint)"
-    )
+    options.add_number("--to", "N", 1, COUNTS, "the last count (default: that of the last checkpoint)")
     add_seconds_option(options, "--answer-seconds", ANSWER_SECONDS)
     options.add_limit_option("end after this many seconds with the smallest session until then")
     options.add_machine_options()

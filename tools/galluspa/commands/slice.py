@@ -8,7 +8,7 @@ from galluspa.engine.program import Program
 from galluspa.formats import recording
 from galluspa.formats.sessions import CHECKPOINTS
 from galluspa.formats.slices import slice_of
-from galluspa.process.cli import Parser, Refused, read_file, whole_number, write_bytes
+from galluspa.process.cli import Parser, Refused, read_file, write_bytes
 
 
 def parser() -> Parser:
@@ -21,22 +21,10 @@ def parser() -> Parser:
         "galluspa slice examples/face.orsr --from 2 --to 4 > 2-4.orsr",
     )
     options.add_argument("recording", metavar="RECORDING", type=Path)
-    options.add_argument(
-        "--from",
-        metavar="I",
-        dest="first",
-        type=whole_number(0, CHECKPOINTS - 1),
-        required=True,
-        help="the number of the checkpoint where the slice begins",
+    options.add_number(
+        "--from", "I", 0, CHECKPOINTS - 1, "the number of the checkpoint where the slice begins", dest="first", required=True
     )
-    options.add_argument(
-        "--to",
-        metavar="J",
-        dest="last",
-        type=whole_number(1, CHECKPOINTS),
-        required=True,
-        help="the number of the last checkpoint of the slice",
-    )
+    options.add_number("--to", "J", 1, CHECKPOINTS, "the number of the last checkpoint of the slice", dest="last", required=True)
     options.add_program_option()
     return options
 

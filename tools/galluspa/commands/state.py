@@ -4,7 +4,6 @@ It shows the machine's own run, whatever the recording claims, and begins at the
 that the check finds true.
 """
 
-import json
 from argparse import Namespace
 from collections.abc import Iterator
 from pathlib import Path
@@ -20,7 +19,7 @@ from galluspa.engine.opening import opened
 from galluspa.engine.tracing import Run
 from galluspa.formats.sessions import COUNTS
 from galluspa.formats.symbols import Symbols
-from galluspa.process.cli import OK, Failed, Output, Parser, whole_number, write_file
+from galluspa.process.cli import OK, Failed, Output, Parser, write_file
 from galluspa.process.timelimit import Limit, TimeIsUp
 
 
@@ -36,7 +35,7 @@ def parser() -> Parser:
         "galluspa state examples/face.orsr --at 8000000 --memory R13,4",
     )
     options.add_argument("recording", metavar="RECORDING", type=Path)
-    options.add_argument("--at", metavar="N", type=whole_number(0, COUNTS), help="the count (default: that of the last checkpoint)")
+    options.add_number("--at", "N", 0, COUNTS, "the count (default: that of the last checkpoint)")
     options.add_argument(
         "--memory",
         metavar="ADDRESS[,WORDS]",
@@ -44,6 +43,13 @@ def parser() -> Parser:
         default=[],
         help=f"print words of memory, too, from the one at an address on (default {MEMORY_WORDS} "
         "words): each as a word, as a number, as bytes and as characters; repeatable",
+    )
+    options.add_argument(
+        "--code",
+        metavar="ADDRESS[,WORDS]",
+        action="append",
+        default=[],
+        help=f"print the instructions in words of memory, too (default {MEMORY_WORDS} words); repeatable",
     )
     options.add_argument(
         "--stack",
@@ -55,7 +61,6 @@ def parser() -> Parser:
     options.add_argument(
         "--screen", metavar="FILE", type=Output, help="draw the screen into a file: a PNG, or a PBM if its name ends with .pbm"
     )
-    options.add_argument("--json", action="store_true", help="print one JSON object")
     options.add_symbols_option()
     options.add_limit_option("end after this many seconds")
     options.add_machine_options()
@@ -75,25 +80,16 @@ def shown(run: Run, machine: Machine, asked: Namespace, symbols: Symbols) -> Ite
         address, words = words_asked(text)
         yield ""
         yield from inspection.memory_lines(machine, address_in_memory(address, moment_of(machine), symbols), words, symbols)
+    for text in asked.code:
+        address, words = words_asked(text)
+        yield ""
+        first = address_in_memory(address, moment_of(machine), symbols) // 4
+        yield from inspection.instruction_lines(machine, first, words, symbols)
     if asked.stack:
         yield ""
         calls = Calls(run, asked.stack_limit).at(machine.count)
         yield f"stack: {inspection.entries_of(machine, symbols).line(state.pc, calls)}"
         yield from inspection.stack_lines(machine, STACK_WORDS, symbols, calls)
-
-
-def as_object(run: Run, machine: Machine, asked: Namespace, symbols: Symbols) -> dict[str, object]:
-    """Returns the same for machines."""
-    found, state = inspection.as_object(machine, symbols), machine.seen()
-    if asked.memory:
-        moment = moment_of(machine)
-        places = [(address_in_memory(address, moment, symbols), words) for address, words in map(words_asked, asked.memory)]
-        found["memory"] = [inspection.memory_objects(machine, address, words, symbols) for address, words in places]
-    if asked.stack:
-        found["stack"] = inspection.memory_objects(machine, state.registers[14], STACK_WORDS, symbols)
-        calls = Calls(run, asked.stack_limit).at(machine.count)
-        found["calls"] = inspection.call_objects(calls, inspection.entries_of(machine, symbols))
-    return found
 
 
 def main(asked: Namespace) -> int:
@@ -102,7 +98,7 @@ def main(asked: Namespace) -> int:
     run, symbols, program, at = it.run, it.symbols, it.program, it.count(asked.at)
     try:
         machine = run.machine(at)
-        lines = [json.dumps(as_object(run, machine, asked, symbols))] if asked.json else list(shown(run, machine, asked, symbols))
+        lines = list(shown(run, machine, asked, symbols))
         if asked.screen:
             write_file(asked.screen, inspection.picture_of(inspection.screen_of(machine, program), asked.screen))
     except TimeIsUp as over:

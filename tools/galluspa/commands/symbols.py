@@ -4,16 +4,17 @@ from argparse import Namespace
 from pathlib import Path
 from textwrap import dedent
 
-from galluspa.commands.listing import recording_of
+from galluspa.engine.initial import without_checkpoints
 from galluspa.engine.library import Library
 from galluspa.engine.opening import count_asked
 from galluspa.engine.program import Program
 from galluspa.engine.tracing import Run
+from galluspa.formats import recording
 from galluspa.formats.oberonmodules import symbols_of
 from galluspa.formats.recording import MEMORY_BYTES
 from galluspa.formats.sessions import COUNTS
 from galluspa.formats.symbolfiles import written
-from galluspa.process.cli import OK, Output, Parser, Refused, read_file, whole_number, write_output
+from galluspa.process.cli import OK, Output, Parser, Refused, read_file, write_output
 from galluspa.process.timelimit import Limit
 
 
@@ -34,9 +35,7 @@ def parser() -> Parser:
         required=True,
         help="a recording, a session, or an image of the memory, 1 MB or less, from address 0 on",
     )
-    options.add_argument(
-        "--at", metavar="N", type=whole_number(0, COUNTS), help="of a recording: the count (default: that of the last checkpoint)"
-    )
+    options.add_number("--at", "N", 0, COUNTS, "of a recording: the count (default: that of the last checkpoint)")
     options.add_argument("-o", "--output", metavar="FILE", type=Output, help="write the symbol file, and do not print it")
     options.add_limit_option("end after this many seconds")
     options.add_machine_options()
@@ -51,7 +50,8 @@ def memory_of(asked: Namespace) -> bytes:
     if asked.at is not None:
         raise Refused(f"--at {asked.at}: {asked.oberon} is not a recording")
     if text.lstrip().startswith(b"{"):
-        return recording_of(Program.find(asked.program, Limit(asked.limit)), asked.oberon, text).first_memory()
+        program = Program.find(asked.program, Limit(asked.limit))
+        return recording.read(program.recorded(without_checkpoints(text)[0], f"{asked.oberon}: ")).first_memory()
     if len(text) > MEMORY_BYTES:
         raise Refused(f"{asked.oberon}: an image has at most {MEMORY_BYTES:,} bytes")
     return text.ljust(MEMORY_BYTES, b"\0")

@@ -5,7 +5,6 @@ recording claims. It begins at the last checkpoint at or before the given count 
 instructions of a long recording cost the check and one segment.
 """
 
-import json
 import sys
 from argparse import Namespace
 from pathlib import Path
@@ -24,8 +23,8 @@ from galluspa.formats.recording import STOPS
 from galluspa.formats.sessions import CHECKPOINTS, COUNTS
 from galluspa.formats.symbolfiles import symbols_for
 from galluspa.formats.symbols import Symbols
-from galluspa.output.traceformats import RECORD, JsonLines, record
-from galluspa.process.cli import FAILED, OK, WRONG, Failed, Parser, Refused, complain, read_file, whole_number, write_records
+from galluspa.output.traceformats import JsonLines
+from galluspa.process.cli import FAILED, OK, WRONG, Failed, Parser, Refused, complain, read_file
 from galluspa.process.timelimit import Limit, TimeIsUp
 
 STEPS = 20
@@ -46,20 +45,10 @@ def parser() -> Parser:
         {WRONG: "the condition of --until holds at no count"},
     )
     options.add_argument("recording", metavar="RECORDING", type=Path)
-    options.add_argument(
-        "--from", metavar="N", dest="first", type=whole_number(0, COUNTS), default=0, help="the count to begin at (default 0)"
-    )
-    options.add_argument(
-        "--to",
-        metavar="N",
-        type=whole_number(0, COUNTS),
-        help="the count to end at (default with --until: that of the last checkpoint)",
-    )
-    options.add_argument(
-        "--steps",
-        metavar="M",
-        type=whole_number(1, COUNTS),
-        help=f"print M instructions from there (default without --to: {STEPS}); with --until, the last " "M",
+    options.add_number("--from", "N", 0, COUNTS, "the count to begin at (default 0)", dest="first", default=0)
+    options.add_number("--to", "N", 0, COUNTS, "the count to end at (default with --until: that of the last checkpoint)")
+    options.add_number(
+        "--steps", "M", 1, COUNTS, f"print M instructions from there (default without --to: {STEPS}); with --until, the last " "M"
     )
     options.add_argument(
         "--until",
@@ -67,12 +56,7 @@ def parser() -> Parser:
         nargs="+",
         help="search for the first instruction at which a condition holds, as above; `galluspa find` " "finds the last one, too",
     )
-    options.add_argument(
-        "--at",
-        metavar="K",
-        type=whole_number(0, CHECKPOINTS),
-        help="begin at what checkpoint K claims, and do not check whether that is true",
-    )
+    options.add_number("--at", "K", 0, CHECKPOINTS, "begin at what checkpoint K claims, and do not check whether that is true")
     options.add_argument(
         "--calls",
         action="store_true",
@@ -81,13 +65,7 @@ def parser() -> Parser:
     )
     add_stack_limit_option(options)
     options.add_symbols_option()
-    forms = options.add_mutually_exclusive_group()
-    forms.add_argument("--json", action="store_true", help="print one JSON object per line")
-    forms.add_argument(
-        "--binary",
-        action="store_true",
-        help=f"write a record of {RECORD.size} bytes for each instruction, for other programs; docs/debugging.md " "has its fields",
-    )
+    options.add_argument("--json", action="store_true", help="print one JSON object per line")
     options.add_limit_option("end after this many seconds, and say how far that was")
     options.add_machine_options()
     return options
@@ -123,21 +101,15 @@ def end_of(asked: Namespace, run: Run) -> int:
 
 def show(run: Run, machine: Machine, to: int, asked: Namespace, symbols: Symbols) -> None:
     """Prints the instructions of a machine up to a count, and whether it has stopped after them."""
-    if asked.binary:
-        write_records(map(record, run.raw_steps(machine, to)))
-        return
     trace = CallTrace(symbols, machine, Calls(run, asked.stack_limit)) if asked.calls else Trace(symbols)
     if not asked.json:
         for step in run.steps(machine, to):
             print("\n".join(trace.lines(step)))
         if machine.state.stop:
             print(f"{machine.count:>10}  stopped ({STOPS[machine.state.stop]}): it does nothing more")
-    elif asked.calls:
-        for step in run.steps(machine, to):
-            print(json.dumps(trace.object(step)))
     else:
         line = JsonLines(symbols).line
-        sys.stdout.writelines(f"{line(step)}\n" for step in run.raw_steps(machine, to))
+        sys.stdout.writelines(f"{line(step)[:-1]}{trace.member(step)}}}\n" for step in run.raw_steps(machine, to))
 
 
 def search(asked: Namespace, run: Run, it: Search, symbols: Symbols) -> int:
@@ -158,8 +130,6 @@ def search(asked: Namespace, run: Run, it: Search, symbols: Symbols) -> int:
 
 def main(asked: Namespace) -> int:
     """Prints instructions of a run; the status is 1 if the condition of --until holds at none."""
-    if asked.binary and asked.calls:
-        raise Refused("leave out --calls: records of --binary have no names")
     symbols = symbols_for(asked.symbols, asked.recording)
     conditions = conditions_of(asked.until, symbols) if asked.until else []
     run = run_of(asked, Limit(asked.limit))

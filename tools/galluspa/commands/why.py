@@ -15,7 +15,7 @@ from galluspa.engine.opening import opened
 from galluspa.engine.tracing import add_workers_option
 from galluspa.formats.sessions import COUNTS
 from galluspa.formats.sourcetext import Sources, add_directory_option
-from galluspa.process.cli import OK, Failed, Parser, whole_number
+from galluspa.process.cli import OK, Failed, Parser
 from galluspa.process.timelimit import Limit, TimeIsUp
 
 
@@ -40,19 +40,8 @@ def parser() -> Parser:
     )
     options.add_argument("recording", metavar="RECORDING", type=Path)
     options.add_argument("part", metavar="PART", nargs="+", help="whose value, as above")
-    options.add_argument(
-        "--at",
-        metavar="N",
-        type=whole_number(0, COUNTS),
-        help="the count before which it has the value (default: the last checkpoint's)",
-    )
-    options.add_argument(
-        "--links",
-        metavar="N",
-        type=whole_number(1, MOST_LINKS),
-        default=LINKS,
-        help=f"follow at most N instructions (default {LINKS})",
-    )
+    options.add_number("--at", "N", 0, COUNTS, "the count before which it has the value (default: the last checkpoint's)")
+    options.add_number("--links", "N", 1, MOST_LINKS, f"follow at most N instructions (default {LINKS})", default=LINKS)
     options.add_argument("--json", action="store_true", help="print one JSON object")
     add_directory_option(options, "lines of sources")
     options.add_symbols_option()

@@ -5,29 +5,24 @@ import os
 import shutil
 import signal
 from collections.abc import Generator, Iterator, Sequence
-from dataclasses import dataclass, field, replace
+from dataclasses import dataclass
 from itertools import count as numbers
 from multiprocessing import get_context
 from multiprocessing.connection import Connection, wait
 from multiprocessing.process import BaseProcess
 from pathlib import Path
 
-from galluspa.analysis.coverage import Coverage
-from galluspa.analysis.sampledsteps import step_between
 from galluspa.emulators.fuzzreports import Finding, finding_of, name_of
 from galluspa.emulators.randomtrials import BATCH, trials
 from galluspa.emulators.reduction import Reducer, ended
 from galluspa.emulators.trialruns import TrialRunner, Parting, other_of
 from galluspa.emulators.trials import Trial
 from galluspa.engine.library import Library
-from galluspa.formats import recording
 from galluspa.process import children
 from galluspa.process.cli import SIGNALS, Failed, Refused
 from galluspa.process.timelimit import Limit
 from galluspa.process.temporary import temporary_folder
 
-# What trials exercise is counted of one in this many.
-MEASURED = 16
 # How many trials are written at once to a kept emulator.
 AT_ONCE = 16
 # Exit timeout of a process, in seconds.
@@ -50,21 +45,15 @@ class Plan:
 
 @dataclass
 class Tally:
-    """What was done: how many trials and instructions, what those that were measured exercise, and how many these are."""
+    """How many trials were made, and how many instructions they have."""
 
     trials: int = 0
     instructions: int = 0
-    measured: int = 0
-    seen: Coverage = field(default_factory=Coverage)
 
     def add(self, more: "Tally") -> None:
         """Adds what was done elsewhere."""
         self.trials += more.trials
         self.instructions += more.instructions
-        self.measured += more.measured
-        self.seen.instructions += more.seen.instructions
-        self.seen.times += more.seen.times
-        self.seen.first = {**more.seen.first, **self.seen.first}
 
 
 @dataclass(frozen=True)
@@ -115,8 +104,6 @@ class Comparison:
                 parting = self.runner.parting(trial, answer)
                 tally.trials += 1
                 tally.instructions += trial.count
-                if number % MEASURED == 0:
-                    measure(self.plan.library, trial, self._origin, tally)
                 if parting and (finding := self._finding(trial)):
                     found.append(finding)
             yield tally
@@ -172,15 +159,6 @@ class Comparison:
         if is_fresh:
             self.runner.other.close()
         return self.runner.parting(trial)
-
-
-def measure(library: Library, trial: Trial, origin: str, tally: Tally) -> None:
-    """Counts what a trial exercises."""
-    session = replace(trial.session(), checkpoints=list(range(1, trial.count + 1)))
-    dense = recording.read(library.record(session.text().encode()))
-    pairs = zip(dense.checkpoints, dense.checkpoints[1:])
-    tally.seen.add(origin, (step_between(dense, before, after) for before, after in pairs))
-    tally.measured += 1
 
 
 def _work(plan: Plan, process: int, pipe: Connection, folder: Path, parent: int) -> None:

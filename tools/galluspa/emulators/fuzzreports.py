@@ -5,16 +5,14 @@ from collections.abc import Iterator, Sequence
 from dataclasses import dataclass
 from itertools import islice
 
-from galluspa.analysis.coveragetables import move_of
 from galluspa.assembler.mnemonics import source_of
-from galluspa.emulators.instructionrules import rules_of
 from galluspa.emulators.reduction import machine_of
 from galluspa.emulators.trialruns import TrialRunner, Parting
 from galluspa.emulators.trials import Trial
 from galluspa.engine.machine import Machine
 from galluspa.engine.tracing import Run, differing, lines
 from galluspa.formats import recording, states
-from galluspa.formats.instructions import CONDITIONS, OPERATIONS, instruction, is_move, is_operation
+from galluspa.formats.instructions import CONDITIONS, MOVES, OPERATIONS, instruction, is_move, is_operation
 from galluspa.formats.recording import Recording
 
 WORDS_SHOWN = 16
@@ -29,7 +27,7 @@ def name_of(word: int | None) -> str:
         return FETCH
     if is_operation(word):
         return OPERATIONS[word >> 16 & 15]
-    return move_of(word) if is_move(word) else f"B{CONDITIONS[word >> 24 & 15]}"
+    return MOVES[word >> 28 & 3] if is_move(word) else f"B{CONDITIONS[word >> 24 & 15]}"
 
 
 @dataclass(frozen=True)
@@ -65,20 +63,13 @@ class Finding:
         small += f" in {steps} steps" if steps > instructions else ""
         return f"{small}, {inputs} {'input' if inputs == 1 else 'inputs'}; {self.origin}"
 
-    @property
-    def rules(self) -> list[str]:
-        """Returns what docs/machine.md says of the instruction."""
-        return rules_of(self.word)
-
     def shown(self) -> Iterator[str]:
         """Yields the lines that say all of it; rows that neither differ nor change are left out."""
-        yield from (self.headline, self.size, "", *self.run, "", "docs/machine.md says:")
-        yield from (f"  {rule}" for rule in self.rules)
-        yield ""
+        yield from (self.headline, self.size, "", *self.run, "")
         yield from _columns([("", "before", "the machine", "the other"), *(row for row in self.rows if len(set(row[1:])) > 1)])
 
     def source(self) -> str:
-        """Returns the instructions, as `galluspa listing --source` prints them, and what they begin with as comments."""
+        """Returns a source of the instructions, with what they begin with as comments."""
         trial, read = self.trial, recording.read(self.recording)
         first = read.checkpoints[0]
         parts = [f"{part.name} {part.text}" for part in (*states.registers(first, None), *states.others(first, None, 2))]
@@ -87,7 +78,7 @@ class Finding:
         return "\n".join([*begin, *inputs, f"        origin 0x{4 * trial.pc:X}", *_source(read, trial)]) + "\n"
 
     def files(self) -> dict[str, bytes]:
-        """Returns the files that are left, but for the page."""
+        """Returns the files that are left."""
         return {
             "session.json": self.trial.session().text().encode(),
             "recording.orsr": self.recording,

@@ -131,10 +131,6 @@ class Gave:
             (f"{name} {shown(name, old)} → {shown(name, new)}" for name, (old, new) in changed if not self._goes_on(name)),
         )
 
-    def trace_object(self) -> dict[str, object]:
-        """Returns the same for other programs."""
-        return {"count": self.step.before.count, "changed": self._trace_changes()}
-
     def _trace_changes(self) -> dict[str, tuple[int, int]]:
         """Returns the columns that the instruction changed in the trace, before and after it."""
         before, after = self.trace_before, self.trace_after

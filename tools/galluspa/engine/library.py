@@ -11,9 +11,9 @@ from dataclasses import dataclass
 from pathlib import Path
 
 from galluspa.engine.machine import LONGEST_WAIT, MOST_STEPS, SLICE_SECONDS
-from galluspa.engine.machine import Claims, Inputs, Machine, Profile, Sent, slice_end, steps_after
-from galluspa.engine.structures import CALLS, SIZE, Counts, RawCheckpoint, RawHit, RawRecord, RawState, Words
-from galluspa.formats.recording import PAGE_BYTES, WORDS
+from galluspa.engine.machine import Inputs, Machine, Profile, Sent, slice_end, steps_after
+from galluspa.engine.structures import CALLS, SIZE, Counts, RawHit, RawRecord, RawState, Words
+from galluspa.formats.recording import WORDS
 from galluspa.process import paths
 from galluspa.process.children import WAIT_SECONDS
 from galluspa.process.cli import Failed, Refused
@@ -101,23 +101,6 @@ class Library:
         if code:
             raise _refusal(f"cannot read checkpoint {at}", code)
         return machine
-
-    def claims(self, text: bytes) -> Claims:
-        """Returns what all checkpoints of a recording claim; whether the claims are true is not tested. The recording is read
-        twice, however many checkpoints it has: first for how many there are."""
-        rooms = (0, 0)
-        while True:
-            checkpoints, pages = (RawCheckpoint * rooms[0])(), bytearray(rooms[1] * PAGE_BYTES)
-            counts, filled = (SIZE(), SIZE()), (ctypes.c_uint8 * len(pages)).from_buffer(pages)
-            code = self.calls.galluspa_claims(
-                *_sized(text), *_sized(checkpoints), ctypes.byref(counts[0]), filled, rooms[1], ctypes.byref(counts[1])
-            )
-            if code != NO_ROOM:
-                break
-            rooms = counts[0].value, counts[1].value
-        if code:
-            raise _refusal("cannot read the checkpoints", code)
-        return Claims(checkpoints, pages)
 
     def check(self, text: bytes) -> tuple[str, int]:
         """Returns the verdict line of a recording, and the program's exit status for it. One call takes the whole

@@ -6,7 +6,7 @@ from bisect import bisect_left
 from collections.abc import Iterator, Sequence
 from dataclasses import dataclass
 
-from galluspa.engine.structures import RawCheckpoint, RawInput, RawState, Words
+from galluspa.engine.structures import RawInput, RawState, Words
 from galluspa.formats.recording import PAGE_BYTES, STATE_WORDS, WORDS, WORDS_IN_PAGE, Checkpoint, Event, Recording
 from galluspa.formats.sessions import COUNTS
 
@@ -106,26 +106,6 @@ class Machine:
             output=sent,
             table=array("I"),
         )
-
-
-class Claims:
-    """What all checkpoints of a recording claim, which the library has read at once."""
-
-    def __init__(self, checkpoints: ctypes.Array[RawCheckpoint], pages: bytearray) -> None:
-        self._checkpoints = checkpoints
-        self._pages = memoryview(pages)
-
-    def __len__(self) -> int:
-        return len(self._checkpoints)
-
-    def machine(self, number: int) -> Machine:
-        """Returns the machine that a checkpoint claims."""
-        it, words = self._checkpoints[number], Words()
-        memory = memoryview(words).cast("B")
-        for slot, page in enumerate(it.pages):
-            if page:
-                memory[slot * PAGE_BYTES : (slot + 1) * PAGE_BYTES] = self._pages[page * PAGE_BYTES : (page + 1) * PAGE_BYTES]
-        return Machine(RawState.from_buffer_copy(it.state), words)
 
 
 class Inputs:

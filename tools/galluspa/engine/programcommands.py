@@ -99,7 +99,7 @@ def kind(path: Path, text: bytes) -> str:
     if is_session(path.name, text):
         return f"a session: galluspa record {name} > NAME.orsr makes its recording"
     if b"<html" in text[:4096].lower():
-        return f"a page: galluspa recording-of {name} > NAME.orsr takes the recording out of a live report"
+        return f"a page: galluspa recording-of {name} > NAME.orsr takes the recording out of a report"
     if text and len(text) <= 1 << 20:
         return f"if it is a memory image, galluspa session --memory {name} .. makes a session of it"
     return ""

@@ -3,7 +3,7 @@ compares the two."""
 
 import ctypes
 
-from galluspa.formats.recording import PLACES, WORDS
+from galluspa.formats.recording import WORDS
 
 Words, Counts = ctypes.c_uint32 * WORDS, ctypes.c_uint64 * WORDS
 
@@ -18,12 +18,6 @@ class RawState(ctypes.Structure):
         *((name, ctypes.c_uint32) for name in ("mouse", "serial", "key_count")),
         ("keys", ctypes.c_uint8 * 16),
     ]
-
-
-class RawCheckpoint(ctypes.Structure):
-    """What a checkpoint claims, its memory page by page, as include/galluspa.h lays it out."""
-
-    _fields_ = [("state", RawState), ("sent_count", ctypes.c_uint64), ("pages", ctypes.c_uint32 * PLACES)]
 
 
 class RawInput(ctypes.Structure):
@@ -80,7 +74,6 @@ CALLS = {
     "check": (SIZE, [*ARRAY, *ARRAY, POINTER]),
     "record": (SIZE, [*ARRAY, *ARRAY, POINTER]),
     "claim": (CODE, [*ARRAY, WORD, POINTER, *ARRAY]),
-    "claims": (CODE, [*ARRAY, *ARRAY, POINTER, *ARRAY, POINTER]),
     "advance": (CODE, [*RUN, COUNT, *ARRAY, POINTER]),
     "find": (CODE, [*RUN, COUNT, *ARRAY, WORD, POINTER]),
     "hits": (CODE, [*RUN, COUNT, *ARRAY, *ARRAY, POINTER]),

@@ -244,19 +244,3 @@ def changes(step: Step) -> Iterator[str]:
         yield f"{word.name} {word.old:08X} → {word.new:08X}"
     if step.after.output:
         yield f"sends {states.byte(step.after.output[0])}"
-
-
-def as_object(step: Step) -> dict[str, object]:
-    """Returns an instruction for machines: numbers and names alone, each part that changed with its old and its new
-    value."""
-    old, new = states.values(step.before), states.values(step.after)
-    return {
-        "count": step.before.count,
-        "inputs": [[event.count, states.kind(event), event.value] for event in step.inputs],
-        "PC": step.before.pc,
-        "word": step.word,
-        "instruction": None if step.word is None else mnemonic(step.word),
-        "changed": {name: [old[name], value] for name, value in new.items() if value != old[name]},
-        "memory": [[word.address, word.old, word.new] for word in step.changed],
-        "sent": list(step.after.output),
-    }

@@ -17,6 +17,8 @@ OPERATIONS: list[str] = LANGUAGE["operations"]
 SIGNS: list[str] = LANGUAGE["signs"]
 CONDITIONS = tuple[str, ...](LANGUAGE["conditions"])
 TESTS: list[str] = LANGUAGE["tests"]
+# Loads and stores, by bits 29 and 28.
+MOVES = [*LANGUAGE["memory"]]
 ALWAYS, NEVER = 7, 15
 # The operations that write H, and those that may read the carry.
 WITH_H, WITH_CARRY = (10, 11), (8, 9)
@@ -162,16 +164,6 @@ def branches_to(word: int, at: int) -> int | None:
     """Returns the number of the word that a branch by an offset leads to, if it lies at a place; None of any other word."""
     is_by_offset = is_branch(word) and bit(word, 29) and word >> 24 & 15 != NEVER
     return (at + 1 + signed(word, 22)) % (1 << 22) if is_by_offset else None
-
-
-def moved(word: int, before: int) -> int | None:
-    """Returns the number that a move has as its operand, or that this word and the one before it put together: a move of the
-    upper half, and IOR of the same register. None of any other word."""
-    if word >> 16 & 0xF00F == 0x4000 or word >> 16 & 0xF00F == 0x5000:
-        return (word & 0xFFFF) - (0x10000 if bit(word, 28) else 0)
-    a, b = word >> 24 & 15, word >> 20 & 15
-    is_upper_half = before >> 28 in (6, 7) and before >> 16 & 15 == 0 and before >> 24 & 15 == a == b
-    return (before & 0xFFFF) << 16 | word & 0xFFFF if is_upper_half and word >> 16 & 0xF00F == 0x4006 else None
 
 
 def _operand(word: int, _at: int) -> str:

@@ -132,13 +132,6 @@ class Recording:
         page = self.page(checkpoint.table[number // WORDS_IN_PAGE])
         return struct.unpack_from("<I", page, number % WORDS_IN_PAGE * 4)[0]
 
-    def changed_slots(self, before: Checkpoint, after: Checkpoint) -> list[int]:
-        """Returns the page slots whose content is another at one checkpoint than at another."""
-        if before.table == after.table:
-            return []
-        pairs = zip(before.table, after.table)
-        return [at for at, (old, new) in enumerate(pairs) if old != new and self.page(old) != self.page(new)]
-
 
 def read(text: bytes) -> Recording:
     """Returns the recording of a lawful text."""

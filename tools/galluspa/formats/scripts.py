@@ -11,7 +11,7 @@ from dataclasses import dataclass, field, replace
 from functools import cached_property
 from typing import Any
 
-from galluspa.formats.otherassemblers import alike_of
+from galluspa.formats.alike import alike_of
 from galluspa.formats.recording import KINDS, Event
 from galluspa.formats.sessions import COUNTS, KIND_NUMBERS, MOST
 from galluspa.process.cli import Refused

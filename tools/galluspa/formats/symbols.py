@@ -11,7 +11,7 @@ from functools import cached_property
 from itertools import accumulate
 from typing import NamedTuple
 
-from galluspa.formats.otherassemblers import alike_of
+from galluspa.formats.alike import alike_of
 from galluspa.formats.recording import MEMORY_BYTES
 from galluspa.process.escapes import printable
 

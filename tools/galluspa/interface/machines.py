@@ -108,10 +108,11 @@ class Machine:
         """Yields the machines that the checkpoints of a recording claim, true or not, from the initial state's on. The recording is
         not read anew for each. Raises Refused if the bytes are not a recording."""
         library, text = library or Library.find(None), content("recording", recording)
-        claims = library.claims(text)
+        library.claim(text, 0)
         read = recordings.read(text)
-        for at in range(len(claims)):
-            yield cls._made(Run(library, read, range(at, at + 1)), claims.machine(at), Symbols())
+        for at in range(len(read.checkpoints)):
+            run = Run(library, read, range(at, at + 1))
+            yield cls._made(run, run.claimed(at), Symbols())
 
     def copy(self) -> "Machine":
         """Returns an independent machine in the same state."""

@@ -1,25 +1,13 @@
-"""The screens of checkpoints as pictures, drawn by the program and each stored once."""
+"""Screens that the program drew, as pictures in pages."""
 
 import base64
-import contextlib
-import hashlib
 import io
 from collections.abc import Sequence
-from dataclasses import dataclass
 
 from PIL import Image, ImageChops
 
-from galluspa.analysis.film import HEADER
-from galluspa.engine.program import Program
-from galluspa.formats.recording import DISPLAY_END, DISPLAY_START, Recording
-from galluspa.process.children import in_parallel
-from galluspa.process.timelimit import TimeIsUp
+from galluspa.formats.screens import HEADER
 
-AT_A_TIME = 4
-# How many pictures are drawn at once, before the room for more is tested.
-AT_ONCE = 16
-# How many bytes the pictures of a page have, in full and small; those after them are not drawn.
-FULL_BYTES, SMALL_BYTES = 12_000_000, 6_000_000
 SMALL = (256, 192)
 GREYS = 16
 # Both are seen on white and on black, and are told apart also by those who do not see red.
@@ -27,42 +15,6 @@ SET, GONE = (214, 40, 40), (0, 110, 230)
 # The number of dots that are shown around a box: its least column and row from below, and its greatest.
 MARGIN = 8
 Box = tuple[int, int, int, int]
-
-
-@dataclass(frozen=True)
-class Screens:
-    """The screens of a recording: for each checkpoint the first one with the same dots, and the pictures of those as
-    PNG, in full or small. Of those that are in neither there is no picture."""
-
-    first: list[int]
-    full: dict[int, bytes]
-    small: dict[int, bytes]
-
-    @property
-    def missing(self) -> int:
-        """Returns how many screens have no picture."""
-        return len(set(self.first)) - len(self.full) - len(self.small)
-
-
-def screens(program: Program, read: Recording) -> Screens:
-    """Returns the screens of a recording's checkpoints, as long as there are room and time; the program is asked once
-    for each that differs from all before it."""
-    made = Screens(_first_alike(read), {}, {})
-    numbers = sorted(set(made.first))
-
-    def drawn(number: int) -> bytes:
-        return program.drawn(read.checkpoints[number], read.display(read.checkpoints[number]))
-
-    with contextlib.suppress(TimeIsUp):
-        for at in range(0, len(numbers), AT_ONCE):
-            is_full = sum(map(len, made.full.values())) < FULL_BYTES
-            if not is_full and sum(map(len, made.small.values())) >= SMALL_BYTES:
-                break
-            encoded, pictures = (png, made.full) if is_full else (small_png, made.small)
-            some = numbers[at : at + AT_ONCE]
-            for number, pbm in zip(some, in_parallel(AT_A_TIME, drawn, some), strict=True):
-                pictures[number] = encoded(pbm)
-    return made
 
 
 def png(pbm: bytes) -> bytes:
@@ -121,16 +73,3 @@ def encoded(picture: Image.Image) -> bytes:
 def base64_of(picture: Image.Image) -> str:
     """Returns a picture as PNG in base64, as pages have it."""
     return base64.b64encode(encoded(picture)).decode()
-
-
-def _first_alike(read: Recording) -> list[int]:
-    """For each checkpoint the number of the first one whose display memory has the same bytes."""
-    seen: dict[bytes, int] = {}
-    first: list[int] = []
-    for number, checkpoint in enumerate(read.checkpoints):
-        if number and checkpoint.table == read.checkpoints[number - 1].table:
-            first.append(first[-1])
-            continue
-        display = read.memory(checkpoint, DISPLAY_START, DISPLAY_END)
-        first.append(seen.setdefault(hashlib.sha256(display).digest(), number))
-    return first

@@ -1,5 +1,4 @@
-"""Writes profiles: as text, as JSON, for callgrind_annotate and KCachegrind, as folded stacks, and as what differs
-between two of them."""
+"""Writes profiles: as text, for callgrind_annotate and KCachegrind, and as what differs between two of them."""
 
 import re
 from collections import Counter
@@ -40,38 +39,6 @@ def share_with_callees(row: Row, profile: Profile) -> str:
 def summary(profile: Profile) -> str:
     """Returns what was counted."""
     return f"{profile.instructions:,} instructions from count {profile.first:,} to {profile.to:,}"
-
-
-def as_object(profile: Profile) -> dict[str, object]:
-    """Returns a profile for other programs: numbers and names alone."""
-    inclusive = profile.inclusive_edges()
-    return {
-        "from": profile.first,
-        "to": profile.to,
-        "instructions": profile.instructions,
-        "procedures": [
-            {
-                "name": it.procedure.name,
-                "module": it.procedure.module,
-                "instructions": it.own,
-                "with callees": it.inclusive,
-                "calls": it.calls,
-            }
-            for it in profile.rows()
-        ],
-        "calls": [
-            {"caller": caller.name, "called": called.name, "calls": number, "with callees": inclusive[caller, called]}
-            for (caller, called), number in profile.edges().items()
-        ],
-    }
-
-
-def folded(profile: Profile) -> Iterator[str]:
-    """Yields the stacks of a profile as lines that flame graphs are made of."""
-    stacks: Counter[str] = Counter()
-    for names, count in profile.stacks():
-        stacks[";".join(re.sub(r"[;\s]+", "_", name) for name in names)] += count
-    yield from (f"{names} {count}" for names, count in stacks.items())
 
 
 def callgrind(profile: Profile, name: str) -> Iterator[str]:

@@ -1,16 +1,11 @@
-"""Writes instructions by the million: as an object of JSON in each line, as a binary record of fixed length, or as text.
-
-All are made of the numbers of a step, without the states before and after it.
-"""
+"""Writes instructions by the million, as an object of JSON in each line: of the numbers of a step, without the states before and
+after it."""
 
 import json
-import struct
-from collections.abc import Callable, Iterator, Sequence
+from collections.abc import Iterator, Sequence
 from functools import lru_cache
 
-from galluspa.analysis.naming import placed_lines, remarks_on, with_remark
 from galluspa.engine.recorded import PC, Devices, RawStep
-from galluspa.engine.tracing import step_of, word_text
 from galluspa.formats import states
 from galluspa.formats.instructions import address, is_branch, mnemonic, written
 from galluspa.formats.symbols import NONE, Symbols
@@ -19,18 +14,12 @@ from galluspa.formats.symbols import NONE, Symbols
 _PROCESSOR = (*states.REGISTERS, "H", "PC", "flags", "stop")
 _BEGIN = [f'"{name}": [' for name in _PROCESSOR]
 _DEVICES = ("timer", "rate", "phase", "switches", "LEDs", "mouse", "serial", "keys")
-# A record: count, PC and word; the processor; timer, phase, switches, LEDs, mouse, serial and the number of keys that wait; the
-# number of inputs; the address, old and new value of the word of memory that changes; and the byte that is sent.
-RECORD = struct.Struct("<Q2I20I7II3II")
-NOTHING = 0xFFFFFFFF
-PC_WORDS = 1 << 22
 # The number of words, or instructions, whose texts are kept.
 KEPT_WORDS = 1 << 16
-NO_CHANGE = (NOTHING, 0, 0)
 
 
 class JsonLines:
-    """Writes instructions as JSON: the same text as json.dumps of `named_object`, in a tenth of the time."""
+    """Writes instructions as JSON: numbers and names alone, each part that changed with its old and its new value."""
 
     def __init__(self, symbols: Symbols = NONE) -> None:
         """The names are those of a symbol file; without one there are none."""
@@ -84,76 +73,3 @@ def _changed_devices(before: Devices, after: Devices) -> Iterator[str]:
         if old != new:
             values = [list(it) if isinstance(it, bytes) else it for it in (old, new)]
             yield f'"{name}": {json.dumps(values)}'
-
-
-class TextLines:
-    """Writes instructions as text: the lines of `placed_lines`, in a fraction of the time."""
-
-    def __init__(self, symbols: Symbols = NONE) -> None:
-        """The names are those of a symbol file; without one there are none."""
-        self._symbols = symbols
-        self._remarks: dict[tuple[int, ...], str] = {}
-
-    def lines(self, step: RawStep) -> str:
-        """Returns the lines of an instruction, without a line feed at the end."""
-        if step.inputs:
-            return "\n".join(placed_lines(step_of(step), self._symbols))
-        count, word, before, after, devices, later, _, change, sent = step
-        shown, columns = _columns(word)
-        goes_on = after[PC] == (before[PC] + 1) % PC_WORDS
-        changed = [
-            f"{name} {text(before[at])} → {text(after[at])}"
-            for at, name, text in columns
-            if before[at] != after[at] and not (at == PC and goes_on)
-        ]
-        if later is not devices:
-            changed += _device_texts(devices, later)
-        if change:
-            changed.append("Mem[%06X] %08X → %08X" % change)
-        if sent is not None:
-            changed.append(f"sends {states.byte(sent)}")
-        line = ("%10d  %6d  %s  %s" % (count, before[PC], shown, "; ".join(changed))).rstrip()
-        return f"{line}{self._remark(step)}" if self._symbols else line
-
-    def _remark(self, step: RawStep) -> str:
-        """Returns what a symbol file says of an instruction, which comes after its line."""
-        word, pc, symbols = step.word, step.before[PC], self._symbols
-        accessed = None if word is None else address(word, step.before)
-        key = (pc, step.after[PC], -1 if word is None else word, -1 if accessed is None else accessed)
-        if key not in self._remarks:
-            if len(self._remarks) == KEPT_WORDS:
-                self._remarks.clear()
-            self._remarks[key] = with_remark("", symbols.text(4 * pc), *remarks_on(step_of(step), symbols))
-        return self._remarks[key]
-
-
-@lru_cache(KEPT_WORDS)
-def _columns(word: int | None) -> tuple[str, Sequence[tuple[int, str, Callable[[int], str]]]]:
-    """Returns how a word is shown, and which numbers of the processor it may change: each with its name and with how it
-    is written."""
-    names = [(at, _PROCESSOR[at]) for at in _shown(word)[1]]
-    texts = {name: text for name, (_, text) in states.TEXTS.items()}
-    return word_text(word), [(at, name, texts.get(name, "{:08X}".format)) for at, name in names]
-
-
-def _device_texts(before: Devices, after: Devices) -> Iterator[str]:
-    """Yields what of the devices changed, as it is written; the phase of the timer is left out."""
-    for name, old, new in zip(_DEVICES, before, after, strict=True):
-        if old != new and name != "phase":
-            text = states.TEXTS[name][1]
-            yield f"{name} {text(old)} → {text(new)}"
-
-
-def record(step: RawStep) -> bytes:
-    """Returns the binary record of an instruction."""
-    timer, _, phase, switches, leds, mouse, serial, keys = step.later
-    return RECORD.pack(
-        step.at,
-        step.before[PC],
-        step.word or 0,
-        *step.after,
-        *(timer, phase, switches, leds, mouse, serial, len(keys)),
-        len(step.inputs),
-        *(step.change or NO_CHANGE),
-        NOTHING if step.sent is None else step.sent,
-    )

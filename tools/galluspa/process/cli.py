@@ -13,7 +13,7 @@ import threading
 from collections.abc import Callable, Iterable, Iterator, Sequence
 from pathlib import Path
 from types import FrameType, ModuleType
-from typing import BinaryIO, NoReturn, TextIO
+from typing import Any, BinaryIO, NoReturn, TextIO
 
 from galluspa.process import children
 from galluspa.process.escapes import printable
@@ -51,13 +51,12 @@ class Parser(argparse.ArgumentParser):
 
     def __init__(self, description: str, example: str, statuses: dict[int, str] | None = None) -> None:
         """`statuses` says of the exit statuses what is not said of each tool."""
+        listed = "\n".join(f"  {number}  {meaning}" for number, meaning in {**STATUSES, **(statuses or {})}.items())
         super().__init__(
             description=description,
-            epilog=f"example:\n  {example}",
+            epilog=f"exit status:\n{listed}\n\nexample:\n  {example}",
             formatter_class=argparse.RawDescriptionHelpFormatter,
         )
-        self.example = example
-        self.statuses = STATUSES | (statuses or {})
         # Whether options may stand between the files.
         self.is_intermixed = False
         # Whether the output may take the place of the file that is read.
@@ -74,6 +73,10 @@ class Parser(argparse.ArgumentParser):
     def error(self, message: str) -> NoReturn:
         raise Refused(f"{message} (see {self.prog} --help)")
 
+    def add_number(self, name: str, metavar: str, least: int, most: int, does: str, **more: Any) -> None:
+        """Adds an option whose value is a whole number from `least` to `most`, with what else argparse is to know of it."""
+        self.add_argument(name, metavar=metavar, type=whole_number(least, most), help=does, **more)
+
     def add_program_option(self) -> None:
         """Adds the option that names the program to ask."""
         self.add_argument(
@@ -87,9 +90,8 @@ class Parser(argparse.ArgumentParser):
         self.add_argument(
             "--library",
             metavar="PATH",
-            help="the shared library to call (default: $GALLUSPA_LIBRARY, or the first libgalluspa.so in lib/, "
-            "crates/galluspa/out/ and out/lib/ of this clone, in this installation, and where the system looks "
-            "for libraries)",
+            help="the shared library to call (default: $GALLUSPA_LIBRARY, or the first libgalluspa.so in this "
+            "installation, in crates/galluspa/out/ and out/lib/ of this clone, and where the system looks for libraries)",
         )
 
     def add_machine_options(self) -> None:
@@ -108,9 +110,7 @@ class Parser(argparse.ArgumentParser):
 
     def add_limit_option(self, what: str) -> None:
         """Adds the option that bounds the time; `what` says of what, and what the tool answers at its end."""
-        self.add_argument(
-            "--limit", metavar="SECONDS", type=whole_number(1, 1 << 30), default=SECONDS, help=f"{what} (default {SECONDS})"
-        )
+        self.add_number("--limit", "SECONDS", 1, 1 << 30, f"{what} (default {SECONDS})", default=SECONDS)
 
 
 def refuse_overwriting(outputs: Iterable[str], inputs: Iterable[str | Path]) -> None:
@@ -286,14 +286,9 @@ def _failing(path: str | Path) -> Iterator[None]:
 
 def write_bytes(content: bytes) -> None:
     """Prints bytes that are not text: into a file or a pipe, and on no terminal, which they might control."""
-    write_records([content])
-
-
-def write_records(records: Iterable[bytes]) -> None:
-    """Prints pieces of such bytes."""
     if sys.stdout.isatty():
         raise Refused("the output is not text: write it into a file, with > FILE")
-    sys.stdout.buffer.writelines(records)
+    sys.stdout.buffer.write(content)
 
 
 def with_libraries(name: str) -> ModuleType:

@@ -1,14 +1,12 @@
-"""Says where the tools find what they call and open: in a clone, in a package that is unpacked, or in a Python
-environment."""
+"""Says where the tools find what they call and open: in a clone, or in a Python environment."""
 
 from pathlib import Path
 
 # The package `galluspa`, and what a wheel has in it: the program, the library, the live page, the version.
 PACKAGE = Path(__file__).resolve().parents[1]
 OF_WHEEL = PACKAGE / "installed"
-# The top of a clone; or share/galluspa below the prefix of a package, which is laid out as a clone.
+# The top of a clone.
 TOP = PACKAGE.parents[1]
-PREFIX = TOP.parents[1]
 IS_CLONE = (TOP / "crates.txt").is_file() and (PACKAGE / "packaging").is_dir()
 
 
@@ -20,14 +18,13 @@ def first_of(*paths: Path) -> Path | None:
 def program() -> Path | None:
     """Returns where the program is, if it is built or installed."""
     name = "oberon_replay"
-    return first_of(OF_WHEEL / name, TOP / f"crates/{name}/out/{name}", PREFIX / f"bin/{name}")
+    return first_of(OF_WHEEL / name, TOP / f"crates/{name}/out/{name}")
 
 
 def libraries() -> list[Path]:
     """Returns the shared libraries that are built or installed, in the order in which the tools look for them."""
     name = "libgalluspa.so"
-    built = (OF_WHEEL / name, *(TOP / folder / name for folder in ("lib", "crates/galluspa/out", "out/lib")))
-    return [path for path in (*built, PREFIX / "lib" / name, *PREFIX.glob(f"lib/*/{name}")) if path.is_file()]
+    return [it for it in (OF_WHEEL / name, TOP / "crates/galluspa/out" / name, TOP / "out/lib" / name) if it.is_file()]
 
 
 def page() -> Path:

@@ -1,4 +1,4 @@
-"""Says which version this is: of a package, what it was made with; of the repository, the date of its last commit."""
+"""Says which version this is: of a wheel, what it was made with; of the repository, the date of its last commit."""
 
 import subprocess
 import time

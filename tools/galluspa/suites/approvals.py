@@ -13,7 +13,7 @@ from itertools import zip_longest
 from pathlib import Path
 
 from galluspa.analysis.drawing import Dots, dots_differing
-from galluspa.analysis.film import HEAD, HEADER, HEIGHT, WIDTH, picture
+from galluspa.formats.screens import HEAD, HEADER, HEIGHT, WIDTH, picture
 from galluspa.formats import states
 from galluspa.formats.scripts import LOOK_NAME
 from galluspa.process.cli import Refused, make_folder, read_file, with_libraries, write_file

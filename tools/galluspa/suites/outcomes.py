@@ -2,9 +2,10 @@
 
 import os
 from argparse import Namespace
-from collections.abc import Callable, Iterable, Iterator, Sequence
+from collections.abc import Callable, Iterable, Iterator, Mapping, Sequence
+from functools import partial
 
-from galluspa.process.cli import FAILED, OK, WRONG, Output, Parser, Refused, complain, progress, whole_number, write_file
+from galluspa.process.cli import FAILED, OK, WRONG, Output, Parser, Refused, complain, progress, write_file
 from galluspa.process.escapes import printable
 from galluspa.suites import runs
 from galluspa.suites.cases import Outcome, tap
@@ -15,18 +16,13 @@ SLOWEST = 5
 
 def add_jobs_option(options: Parser, does: str) -> None:
     """Adds the option that says how many are done at a time."""
-    options.add_argument(
-        "-j",
-        metavar="N",
-        dest="jobs",
-        type=whole_number(1, 1024),
-        default=os.cpu_count() or 1,
-        help=f"{does} N recordings at a time (default: the number of CPUs)",
+    options.add_number(
+        "-j", "N", 1, 1024, f"{does} N recordings at a time (default: the number of CPUs)", dest="jobs", default=os.cpu_count() or 1
     )
 
 
-def add_output_options(options: Parser, shown: str) -> None:
-    """Adds the options that name files to write; `shown` says what the page has."""
+def add_output_options(options: Parser) -> None:
+    """Adds the options that name files to write."""
     options.add_argument("--keep", metavar="FILE", type=Output, help="write the answers and times to a file, as JSON")
     options.add_argument(
         "--changed-since",
@@ -35,25 +31,27 @@ def add_output_options(options: Parser, shown: str) -> None:
         help="report what changed and what got slower since the run that --keep wrote to FILE",
     )
     options.add_argument("--junit", metavar="FILE", type=Output, help="write the results as JUnit XML, which CI systems read")
-    options.add_argument("--page", metavar="FILE", type=Output, help=f"write one page (HTML): {shown}")
 
 
-def reported(
-    asked: Namespace,
-    outcomes: Iterable[Outcome],
-    of: int,
-    page: Callable[[list[Outcome], list[Change] | None], bytes],
-    shard: str = "",
-) -> int:
-    """Prints each outcome as it comes, writes the files of the options, and returns the exit status. The file of --keep names
-    the shard, if the outcomes are those of one."""
+# Makes a page of outcomes, and of what changed since an earlier run.
+Page = Callable[[list[Outcome], list[Change] | None], bytes]
+
+
+def reported(asked: Namespace, outcomes: Iterable[Outcome], of: int, page: Page | None = None) -> int:
+    """Prints each outcome as it comes, writes the files of the options, and returns the exit status."""
     before = runs.read_run(asked.before) if asked.before else None
     done = _printed(outcomes, of)
     now = runs.run_of(done) if asked.keep or before is not None else {}
     changes = None if before is None else runs.changes(before, now)
     if changes is not None:
         print("\n".join(_told(changes, asked.before)))
-    _write(asked, done, runs.text_of(now, shard), lambda: page(done, changes))
+    contents: dict[Output | None, Callable[[], bytes]] = {
+        asked.keep: lambda: runs.text_of(now).encode(),
+        asked.junit: lambda: runs.junit(printable(asked.folder.resolve().name), done),
+    }
+    if page:
+        contents[asked.page] = partial(page, done, changes)
+    _write(contents)
     if any(it.has_failed for it in done):
         return FAILED
     return OK if all(it.is_ok for it in done) else WRONG
@@ -81,15 +79,10 @@ def _told(changes: Sequence[Change], before: str) -> Iterator[str]:
         yield f"# nothing changed since {printable(before)}, and nothing got slower"
 
 
-def _write(asked: Namespace, outcomes: list[Outcome], kept: str, page: Callable[[], bytes]) -> None:
+def _write(contents: Mapping[Output | None, Callable[[], bytes]]) -> None:
     """Writes all files of the options; one that cannot be written does not stop the others."""
-    contents = (
-        (asked.keep, lambda: kept.encode()),
-        (asked.junit, lambda: runs.junit(printable(asked.folder.resolve().name), outcomes)),
-        (asked.page, page),
-    )
     failures: list[Refused] = []
-    for path, content in contents:
+    for path, content in contents.items():
         try:
             if path:
                 write_file(path, content())

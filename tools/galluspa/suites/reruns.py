@@ -11,7 +11,7 @@ from galluspa.analysis.addresses import MEMORY_WORDS, address_in_memory, address
 from galluspa.analysis.conditions import conditions_of
 from galluspa.analysis.drawing import Drawn, Mask
 from galluspa.analysis.expressions import Moment
-from galluspa.analysis.film import picture
+from galluspa.formats.screens import picture
 from galluspa.engine.library import Library
 from galluspa.engine.machine import Inputs, Machine
 from galluspa.engine.program import Program

@@ -61,29 +61,21 @@ def digest_of(case: Case) -> str:
         return ""
 
 
-def text_of(kept: Run, shard: str) -> str:
-    """Returns a run as JSON, with the shard of the suite that it is of, if it is of one."""
+def text_of(kept: Run) -> str:
+    """Returns a run as JSON."""
     recordings = {name: asdict(it) for name, it in kept.items()}
-    shards = {"shard": shard} if shard else {}
-    return json.dumps({"format": FORMAT, "version": 1, **shards, "recordings": recordings}, indent=2) + "\n"
+    return json.dumps({"format": FORMAT, "version": 1, "recordings": recordings}, indent=2) + "\n"
 
 
 def read_run(path: str) -> Run:
     """Returns the run that a file keeps."""
-    return read_shard(path)[1]
-
-
-def read_shard(path: str) -> tuple[str, Run]:
-    """Returns the shard of the suite that a kept run is of, empty if it is of all, and the run."""
     try:
         kept = json.loads(read_file(path))
         if kept["format"] != FORMAT or kept["version"] != 1:
             raise ValueError
-        run = {printable(name): _kept(**it) for name, it in kept["recordings"].items()}
-        shard = _text(kept.get("shard", ""))
+        return {printable(name): _kept(**it) for name, it in kept["recordings"].items()}
     except (ValueError, KeyError, TypeError, AttributeError, RecursionError) as error:
         raise Refused(f"{path}: not a run of a suite, as --keep writes it") from error
-    return shard, run
 
 
 def _kept(sha256: object, expected: object, answered: object, seconds: object, is_error: object = False) -> Kept:

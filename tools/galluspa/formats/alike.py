@@ -1,34 +1,13 @@
-"""What other assemblers write, and what is written here instead."""
+"""Names that are alike, so that a message says which one may be meant."""
 
 import os
-import re
 from collections.abc import Iterator, Mapping
 
-from galluspa.formats.language import LANGUAGE, MOST
+from galluspa.formats.language import MOST
 
-ELSEWHERE = LANGUAGE["elsewhere"]
-# By the names of other assemblers, for messages; names in one row are separated by spaces.
-ROWS: tuple[tuple[str, str], ...] = tuple((names, here) for names, here in ELSEWHERE["rows"])
-# Mnemonics of both that do something else there, for the page of the language.
-FALSE_FRIENDS: tuple[tuple[str, str], ...] = tuple((names, here) for names, here in ELSEWHERE["falseFriends"])
-HERE = {name: here for names, here in ROWS for name in names.split()}
-# An operation with a condition, which may also be one that sets flags.
-CONDITIONAL = re.compile(f"(?:{'|'.join(ELSEWHERE['operations'])})S?(?:{'|'.join(ELSEWHERE['conditions'])})")
-# An operation with the letter of those that set flags.
-SETTING = re.compile(f"(?:{'|'.join(ELSEWHERE['setting'])})S")
-# What a register is called elsewhere, and what is written here.
-REGISTERS: dict[str, str] = ELSEWHERE["registers"]
 # The capital letters of names, and the longest name for which one that is like it in all letters but one is looked up.
 LETTERS = "ABCDEFGHIJKLMNOPQRSTUVWXYZ0123456789_"
 LONGEST_ALIKE = MOST["alike"]
-# What begins a token elsewhere, and what is written here.
-SIGNS: dict[str, str] = ELSEWHERE["signs"]
-
-
-def here_of(name: str) -> str:
-    """Returns what is written here for a name of another assembler, in capital letters; nothing, if nothing is known."""
-    alike = "ADDEQ" if CONDITIONAL.fullmatch(name) else "ADDS" if SETTING.fullmatch(name) else ""
-    return HERE.get(name, HERE.get(alike, ""))
 
 
 def are_alike(name: str, other: str) -> bool:
