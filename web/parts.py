@@ -72,13 +72,6 @@ def style() -> str:
     return TOKENS.read_text() + (HERE / "page.css").read_text()
 
 
-def report_style() -> bytes:
-    """The style sheet of the reports that `galluspa report` makes, for those that the page makes."""
-    template = (HERE.parent / "tools/galluspa/output/report.html.j2").read_text()
-    own = template.partition("<style>")[2].partition("</style>")[0]
-    return re.sub(r'\{% include "([\w.]+)" %\}', lambda found: (TOKENS.parent / found[1]).read_text(), own).encode()
-
-
 def filled(template: str, parts: Mapping[str, str]) -> str:
     """A template with its parts in their places."""
     return re.sub(r"\{\{(\w+)\}\}", lambda found: parts[found[1]], template)

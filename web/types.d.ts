@@ -6,7 +6,7 @@ type Task<T = unknown> = (...given: any[]) => T | Promise<T>;
 
 type Library = import("./engine/library.js").Library;
 type Inputs = import("./formats/inputs.js").Inputs;
-type Work = import("./host/journal.js").Work;
+type Work = import("./host/work.js").Work;
 type Helper = import("./host/requests.js").Helper;
 type Past = import("./host/pastclient.js").Past;
 
@@ -69,11 +69,11 @@ interface Numbers {
   serial: number;
 }
 
-/** What was typed and sent, and waits for the machine; and the number of the first of each. An earlier build kept none: they were 0. */
+/** What was typed and sent, and waits for the machine; and the number of the first of each. */
 interface Waiting {
   keys: ArrayLike<number>;
   serial: ArrayLike<number>;
-  taken?: Numbers;
+  taken: Numbers;
 }
 
 /** A change of the mouse or of the switches: its value, and its time since 1970 in ms. */
@@ -136,102 +136,73 @@ interface Watch {
   end: number;
 }
 
-/** What was looked at: the word numbers of the breakpoints, the count of the cursor or null for now, the id of the source, or an empty text; the bytes that
+/** What was looked at in a run: the word numbers of the breakpoints, the count of the cursor or null for now, the id of the source, or an empty text; the bytes that
  * are watched; and the notes, each with its count. */
 interface DeskState {
   breaks: number[];
   cursor: number | null;
   source: string;
-  watches?: Watch[];
-  notes?: [number, string][];
-}
-
-/** What an item has beside the machine. */
-interface Labels {
-  name: string;
-  ran?: Ran;
-  desk?: DeskState;
-  pinned?: boolean;
-  symbols?: SymbolFile;
-  sent: string;
-  family?: number;
-  number?: number;
-  parent?: number;
-  changedAt?: number;
+  watches: Watch[];
+  notes: [number, string][];
 }
 
 /** A machine with only those pages of its memory that are not zero. */
 interface PackedMemory extends Memory {
-  pages: Uint16Array;
+  pages: number[];
 }
 
-/** An item of the browser's storage. One that an earlier build kept has all of the memory, or the `first` state in place of a recording. */
-interface Kept extends Labels, Begun {
-  id: number;
-  by?: string | null;
-  changedAt?: number;
-  live?: Memory | PackedMemory | null;
-  first?: Memory;
+/** What is kept beside a machine: what it sent, what it was run from, and its names. */
+interface Beside {
+  sent: string;
+  ran?: Ran;
+  symbols?: SymbolFile;
+}
+
+/** A run that is kept, as it is read: with what came since its body was written. */
+interface Kept extends Beside, Whole {
+  by: string;
+}
+
+/** The body of a run that is kept: who wrote it, and the machine, with its state or up to which count it is played back. */
+interface KeptRun extends Beside, Begun {
+  by: string;
+  live?: PackedMemory;
   marks?: number[];
   until?: number;
 }
 
-interface KeptSince extends Since {
+/** The head of an item: whose head it is, when it was written (in ms since 1970), the name of its project, and the bytes of its body. */
+interface AnyHead {
   id: string;
-  of: number;
-  by?: string | null;
-  changedAt?: number;
+  of: string;
+  at: number;
+  name: string;
+  size: number;
 }
 
-/** What an item is about, in a small record of its own: up to which count it goes, its inputs, its bytes, when it was changed last (in ms since 1970), the
- * shades of its picture, and what was looked at. */
-interface KeptAbout {
-  id: string;
-  of: number;
-  by?: string | null;
-  name: string;
+/** Of a run: who wrote its body, and what came since then; its family, if it is a branch; up to which count it goes, and its inputs; the shades of its picture, what
+ * was looked at, and whether it is listed by itself. */
+interface RunHead extends AnyHead {
+  by: string;
+  since?: Since;
   family?: number;
   number?: number;
   parent?: number;
   until: number;
   inputs: number;
-  size: number;
-  changedAt: number;
   shades?: Bytes;
-  desk?: DeskState;
+  desk: DeskState;
   pinned?: boolean;
 }
 
-/** What the item of a source is about: its file, the name of its project, how many files and lines it has, its bytes, and when it was changed last. */
-interface KeptSourceAbout {
-  id: string;
-  of: string;
-  name: string;
-  title?: string;
+/** Of a source: which file was shown, with its caret, and the lines of all files that have breakpoints; how many files and lines it has. */
+interface SourceHead extends AnyHead {
+  desk: { file: string; caret?: [number, number]; breaks: number[][] };
   files: number;
   lines: number;
-  size: number;
-  changedAt: number;
 }
 
-/** What the page shows of a recording or of a source that is kept. `source` is the id of the source that a recording was run from, `size` is in bytes. */
-interface Summary {
-  id: any;
-  isSource: boolean;
-  isReadable: boolean;
-  isPinned?: boolean;
-  name: string;
-  title?: string;
-  text: string;
-  size: number;
-  changedAt: number;
-  source?: string;
-  shades?: Bytes;
-  family?: number;
-  number?: number;
-  parent?: number;
-  end?: number;
-}
+type Head = RunHead | SourceHead;
 
 /** The branches beside the run that is open, and how many the family has had. */
 interface Branches {
@@ -566,50 +537,7 @@ interface Framed {
   rows: FrameRow[];
 }
 
-/** How many instructions the machine did in procedures in [from, to): in each by itself, and in each with what it called; and how
- * often each was called. */
-interface Profiled {
-  from: number;
-  to: number;
-  first: number;
-  entries: number[];
-  own: number[];
-  whole: number[];
-  calls: number[];
-}
-
-/** What comes of a trace that was compared with the machine: how many lines are the same, the counts of the first and the last of them (below 0 if
- * there is none), up to which count the machine has come, which columns were not compared, whether the trace goes on after that count, and where it
- * parts from the machine, if it does. */
-interface Traced {
-  lines: number;
-  first: number;
-  last: number;
-  end: number;
-  unknown: string[];
-  isCut: boolean;
-  parted: Parted | null;
-}
-
-/** The first line of a trace that differs, with its count and that of the line before (below 0 if there is none); the columns that differ, as the trace
- * and as the machine has them; and whether these are the same if the trace is read as hexadecimal. */
-interface Parted {
-  line: number;
-  at: number;
-  before: number;
-  differences: [string, string, string][];
-  isHexadecimal: boolean;
-  gave: Gave | null;
-}
-
-/** The instruction after which a trace and the machine differ, as the machine did it; what it reads; and what it changes in the trace. */
-interface Gave extends Done {
-  operands: [string, About][];
-  trace: [string, string, string][];
-}
-
 interface PastNews extends Failure {
-  traced?: { generation: number; request?: number; lines: number; last: number; done: number; of: number };
   peeked?: Moment & { generation: number };
   searched?: { generation: number; request: number; done: number; of: number };
   lastWriter?: Written & { generation?: number };
@@ -647,7 +575,6 @@ interface AssembledProgram {
   symbols: string;
   lines: [number, number, string][];
   inputs: number;
-  hasCheckpoints: boolean;
 }
 
 /** A source that was assembled: the first of its problems, how many there are, and its program if there are none. */
@@ -655,14 +582,6 @@ interface Assembled {
   problems: Problem[];
   number: number;
   program: AssembledProgram | null;
-}
-
-/** The session of a source with its checkpoints, or why there is none. */
-interface SessionOf {
-  problems: Problem[];
-  number: number;
-  session: string | null;
-  notes: Problem[];
 }
 
 /** Where a line is. */
@@ -710,7 +629,7 @@ interface Requests {
   openRecording: [{ bytes: Bytes; checkpoint: number }, Opened];
   openSession: [{ bytes: Bytes; isAlwaysKept?: boolean }, Opened];
   openImage: [{ image: Bytes; address: string; registers: string }, Opened];
-  resume: [{ kept: Kept | (Labels & Whole); isOfFile?: boolean; isKeptOn?: boolean }, Opened];
+  resume: [{ kept: Whole & { ran?: Ran; family?: number }; isOfFile?: boolean; isKeptOn?: boolean }, Opened];
   setRun: [{ on: boolean; fast?: boolean; goal?: number | null; seconds?: number; then?: { fast: boolean } | null; returns?: Returning | null }, void];
   setPace: [{ fast: boolean; seconds: number }, void];
   step: [{}, void];
@@ -723,9 +642,7 @@ interface Requests {
   cancelSerial: [{}, void];
   mark: [{}, string | null];
   claimed: [{ number: number; of: number }, Claimed | null];
-  claimedMemory: [{ number: number; from: number; length: number; of: number }, Bytes | null];
-  claimedOutput: [{ number: number; of: number }, Bytes | null];
-  session: [{}, Made];
+  claimedWhole: [{ number: number; of: number }, (Memory & { sent: Bytes }) | null];
   recording: [{}, Made];
   recordingTo: [Start, Made | null];
   kept: [{}, (Whole & { fork: number }) | null];
@@ -746,13 +663,9 @@ interface Requests {
   executions: [{ generation?: number; request?: number; from: number; end: number; to: number }, Executed | null];
   stopExecutions: [{}, void];
   recheck: [{ generation?: number; at: number }, { at?: number; part?: string | null; stopped?: boolean }];
-  trace: [{ generation?: number; request?: number; file: Blob; isHexadecimal: boolean }, Traced | null];
-  stopTrace: [{}, void];
   stopSearch: [{}, boolean];
   keyframes: [{}, Extent];
   assemble: [{ source: string; file: string; parts?: [string, string][] }, Assembled];
-  sessionOf: [{ source: string; file?: string; parts?: [string, string][]; seconds: number }, SessionOf | null];
-  endSession: [{}, void];
   judge: [{ source: string; file?: string; parts?: [string, string][]; claim: Wanted; seconds: number },
           { line: string | null; number: number; differing: [string, string, string][]; after: number | null } | null];
   seen: [{ bytes: Bytes }, Verdicted & { dots: Bytes }];
@@ -766,7 +679,6 @@ interface Requests {
   ending: [{ generation?: number; request?: number; place: string; at: number; to: number; open: number }, { at: number | null } | null];
   stopCalls: [{ place: string }, void];
   frames: [{ generation?: number; from: number; to: number; width: number; rows: number }, Framed | null];
-  profile: [{ generation?: number; from: number; to: number }, Profiled | null];
   words: [{ from: number; length: number; of: number }, Bytes | null];
   changes: [{ generation?: number; from: number; to: number; size: number; now: number; isOn: boolean }, Changes | null];
 }
@@ -777,11 +689,6 @@ type RequestName = keyof Requests;
 
 /** The elements of the page that are more than an HTMLElement, by their names. */
 interface Elements {
-  report: HTMLDetailsElement;
-  "report-title": HTMLInputElement;
-  "report-note": HTMLTextAreaElement;
-  "report-names": HTMLInputElement;
-  "report-sources": HTMLInputElement;
   screen: HTMLCanvasElement & { editContext?: EditContext; virtualKeyboardPolicy?: string };
   lanes: HTMLCanvasElement;
   file: HTMLInputElement;
@@ -873,6 +780,8 @@ interface Events {
   // The user has the machine run or pause, or goes to another count: what was found is no longer said.
   running: void;
   looking: void;
+  // The registers of another state are shown.
+  registers: void;
   // A moment is shown, with what is seen only where the cursor stays; or the machine as it is now.
   moment: Moment;
   settled: Moment;
@@ -884,7 +793,6 @@ interface Events {
   executed: NonNullable<PastNews["executed"]>;
   counted: NonNullable<PastNews["counted"]>;
   followed: NonNullable<PastNews["followed"]>;
-  traced: NonNullable<PastNews["traced"]>;
 }
 
 // What one panel asks of another (host/commands.js)
@@ -904,11 +812,11 @@ interface Commands {
   // Shows the sources of a program in the tab, one of them in its field.
   showSources(sources: import("./ui/source/sourceautosave.js").KeptPart[], more?: { file?: string; isEdited?: boolean }): void;
   // Resumes an item, or a branch.
-  resumed(work: Work, id: number, branchesOf: (kept: Labels) => Branches | Promise<Branches>): Promise<Labels>;
+  resumed(work: Work, id: string, branchesOf: (head: RunHead) => Branches | Promise<Branches>): Promise<Kept>;
   // Shows a lesson beside the source that is open.
   showLesson(lesson: import("./formats/project.js").Lesson): void;
   // Opens a page that was exported; or shows several, which were handed in, on a board.
-  openPage(name: string, bytes: Bytes): Promise<void>;
+  openPage(bytes: Bytes): Promise<void>;
   showBoard(files: { name: string; bytes: Bytes }[]): Promise<void>;
   // Shows a word of the code in the listing.
   showWord(word: number): void;

@@ -5,7 +5,7 @@ import { addresses, most, registers as registerNames } from "../../tools/gallusp
 import { encoded, operandOf, registerOf, SPECIALS } from "./encoding.js";
 import { deeper, evaluate, valueOf } from "./expressions.js";
 import { advice, Wrong } from "./language.js";
-import { alikeOf, REGISTERS_ELSEWHERE } from "./others.js";
+import { alikeOf } from "./alike.js";
 import { columnOf, CONSTANT, expectCommas, INSTRUCTION, isAligned, isString, SETTINGS, sizeOf, statementOf } from "./statements.js";
 
 /** @typedef {import("./tokens.js").Token} Token */
@@ -113,8 +113,6 @@ export class Assembly {
   /** Returns what may be meant by a name that is not defined.
    * @param {string} name */
   meant(name) {
-    const register = REGISTERS_ELSEWHERE.get(name.toUpperCase());
-    if (register !== undefined) return `: ${register}`;
     if (HEXADECIMAL.test(name)) return advice("hexadecimal", { name });
     const meant = ++this.suggestions <= most.suggestions ? alikeOf(name, this.spelled) : "";
     return meant ? advice("meant", { meant }) : "";

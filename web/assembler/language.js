@@ -1,6 +1,6 @@
 // @ts-check
 /* The assembler's language as the tools and the page have it in common: names, numbers, and the texts of mistakes. */
-import { advice as advices, mistakes, most, notes } from "../../tools/galluspa/formats/assembler.json";
+import { advice as advices, mistakes, most } from "../../tools/galluspa/formats/assembler.json";
 
 /** What is put into a text. A number may be written with commas, or in hexadecimal, as the text says.
  * @typedef {{ [name: string]: string | number | bigint }} Given */
@@ -33,11 +33,6 @@ const filled = (text, given) => text.replace(/\{(\w+)(:[,X])?\}/g, (_, name, for
  * @param {keyof typeof advices} name
  * @param {Given} given */
 export const advice = (name, given = {}) => filled(advices[name], given);
-
-/** Returns the text of a note, which is no mistake.
- * @param {keyof typeof notes} name
- * @param {Given} given */
-export const note = (name, given = {}) => filled(notes[name], given);
 
 /** Returns the text of a mistake.
  * @param {keyof typeof mistakes} name

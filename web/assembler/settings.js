@@ -1,9 +1,9 @@
 // @ts-check
-/* Makes the session of an assembled source: registers, rate, inputs, and the counts of its checkpoints. */
+/* Makes the session of an assembled source: registers, rate and inputs. What the source says of its checkpoints is for the tools; it is read for its mistakes. */
 import { ends } from "../../tools/galluspa/formats/assembler.json";
 import { MEMORY_BYTES, only } from "./assembly.js";
-import { note, Wrong } from "./language.js";
-import { CHECKPOINT_LIMIT, INPUT_LIMIT, MOST_COUNT } from "../formats/limits.js";
+import { Wrong } from "./language.js";
+import { INPUT_LIMIT, MOST_COUNT } from "../formats/limits.js";
 import { columnOf, expectCommas, INSTRUCTION, isString, SETTINGS, textOf } from "./statements.js";
 import { isMark } from "./tokens.js";
 
@@ -13,32 +13,21 @@ import { isMark } from "./tokens.js";
 
 const WORD = 0xffffffff, MOUSE = 0x073ff3ff;
 const FLAGS = "NZCV";
-// The longest run that is tried for its end, if the source does not say it.
-const MOST_STEPS = 2 ** 30;
 /** The most that an input of each kind may be. */
 const MOST = new Map([["timer", WORD], ["switches", 0xfff], ["mouse", MOUSE], ["key", 0xff], ["serial", 0xff]]);
 
 /** What a source says of its session.
- * @typedef {{ registers: number[], h: number, pc: number, flags: number, rate: number, phase: number, inputs: [number, string, number][],
- *   checkpoints: number[] }} Start */
+ * @typedef {{ registers: number[], h: number, pc: number, flags: number, rate: number, phase: number, inputs: [number, string, number][] }} Start */
 
-/** What a source says of its session: the session without its checkpoints, their counts as far as they are listed, how the rest of them
- * are found, and the count of each line with an input. */
+/** What a source says of its session, and the lines that say which checkpoints it has. */
 export class Settings {
   /** @type {Start} */
-  session = { registers: Array(16).fill(0), h: 0, pc: 0, flags: 0, rate: 0, phase: 0, inputs: [], checkpoints: [] };
-  /** @type {Set<number>} */
-  counts = new Set();
+  session = { registers: Array(16).fill(0), h: 0, pc: 0, flags: 0, rate: 0, phase: 0, inputs: [] };
   /** @type {Statement | null} */
   every = null;
-  step = 0;
-  last = 0;
+  hasLast = false;
   /** @type {Statement | null} */
   until = null;
-  /** @type {[number, Statement][]} */
-  inputs = [];
-  end = "";
-  most = MOST_STEPS;
 
   /** @param {Assembly} assembly */
   constructor(assembly) {
@@ -96,7 +85,6 @@ export class Settings {
     if (statement.arguments.length !== 3) throw new Wrong(statement.name.column, "input");
     const [count, kind, value] = statement.arguments, { inputs } = this.session, least = inputs.length ? inputs[inputs.length - 1][0] : 0;
     const at = this.bounded(statement, count, least, MOST_COUNT, "the count"), name = textOf(kind).toLowerCase(), most = MOST.get(name);
-    this.inputs.push([at, statement]);
     if (most === undefined) throw new Wrong(columnOf(kind), "kind", { name: textOf(kind), names: [...MOST.keys()].join(", ") });
     if (isString(value) && (name === "key" || name === "serial")) {
       for (const byte of value.tokens[0].content) inputs.push([at, name, byte]);
@@ -110,7 +98,7 @@ export class Settings {
   /** @param {Statement} statement */
   checkpoints(statement) {
     if (!statement.arguments.length) throw new Wrong(statement.name.column, "checkpoints");
-    for (const argument of statement.arguments) this.counts.add(this.bounded(statement, argument, 1, MOST_COUNT, "the count"));
+    for (const argument of statement.arguments) this.bounded(statement, argument, 1, MOST_COUNT, "the count");
   }
 
   /** @param {Statement} statement */
@@ -118,8 +106,8 @@ export class Settings {
     once(this.every, statement);
     const { length } = statement.arguments;
     if (length < 1 || length > 2) throw new Wrong(statement.name.column, "every");
-    const [step, last = 0] = statement.arguments.map((one) => this.bounded(statement, one, 1, MOST_COUNT, "the count"));
-    Object.assign(this, { every: statement, step, last });
+    for (const argument of statement.arguments) this.bounded(statement, argument, 1, MOST_COUNT, "the count");
+    Object.assign(this, { every: statement, hasLast: length > 1 });
   }
 
   /** @param {Statement} statement */
@@ -128,8 +116,7 @@ export class Settings {
     this.until = statement;
     const { length } = statement.arguments, end = length ? textOf(statement.arguments[0]).toLowerCase() : "";
     if (length < 1 || length > 2 || !ends.includes(end)) throw new Wrong(statement.name.column, "until");
-    this.end = end;
-    for (const most of statement.arguments.slice(1)) this.most = this.bounded(statement, most, 1, MOST_COUNT, "the count");
+    for (const most of statement.arguments.slice(1)) this.bounded(statement, most, 1, MOST_COUNT, "the count");
   }
 
   /** Finds what is wrong with the settings as a whole. */
@@ -143,7 +130,7 @@ export class Settings {
         throw new Wrong(name.column, "phase", { phase: session.phase, rate: session.rate });
       });
     }
-    if (every && !this.last && !this.until)
+    if (every && !this.hasLast && !this.until)
       assembly.keeping(every.line, () => {
         throw new Wrong(every.name.column, "everyEnd");
       });
@@ -152,32 +139,6 @@ export class Settings {
       assembly.keeping(input.line, () => {
         throw new Wrong(input.name.column, "inputs", { number: session.inputs.length, most: INPUT_LIMIT });
       });
-  }
-
-  /** Sets the checkpoints of the session, of which the last may be at an end that was found.
-   * @param {number | null} end */
-  setCheckpoints(end) {
-    const { assembly, every, step, session } = this, counts = new Set(end ? [...this.counts, end] : this.counts), last = this.last || end || 0;
-    const number = every ? Math.floor(last / step) : 0;
-    for (let count = step; every && count <= Math.min(last, step * CHECKPOINT_LIMIT); count += step) counts.add(count);
-    if (Math.max(number, counts.size) > CHECKPOINT_LIMIT) {
-      const statement = /** @type {Statement} */ (every ?? assembly.statements.find(({ does }) => does === "checkpoints"));
-      assembly.keeping(statement.line, () => {
-        throw new Wrong(statement.name.column, "tooMany", { most: CHECKPOINT_LIMIT });
-      });
-    }
-    session.checkpoints = [...counts].sort((one, other) => one - other);
-  }
-
-  /** Returns what is lawful in a session with its checkpoints, and may surprise: that it has none, or that inputs come too late for the
-   * last of them. */
-  notes() {
-    const { checkpoints } = this.session, last = checkpoints[checkpoints.length - 1];
-    if (last === undefined) return [{ line: 1, column: 1, text: note("noCheckpoint") }];
-    const late = this.inputs.filter(([count]) => count >= last).map(([, statement]) => statement);
-    if (!late.length) return [];
-    const text = note(late.length > 1 ? "lateOnes" : "late", { more: late.length - 1, count: last });
-    return [{ line: late[0].line, column: late[0].name.column, text }];
   }
 }
 

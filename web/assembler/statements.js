@@ -2,8 +2,8 @@
 /* Takes a source apart: the statement of each line, with its labels and its arguments. */
 import { directives, settings, single } from "../../tools/galluspa/formats/assembler.json";
 import { BRANCHES, MNEMONICS } from "./encoding.js";
-import { advice, cut, Wrong } from "./language.js";
-import { areAlike, hereOf } from "./others.js";
+import { areAlike } from "./alike.js";
+import { advice, Wrong } from "./language.js";
 import { isMark, MARK, NAME, STRING, tokensOf } from "./tokens.js";
 
 /** @typedef {import("./tokens.js").Token} Token */
@@ -80,13 +80,11 @@ export function statementOf(line, source) {
  * @param {Token[]} rest
  */
 function whatIs({ text, column }, rest) {
-  const upper = text.toUpperCase(), lower = text.toLowerCase();
-  if (MNEMONICS.has(upper)) return INSTRUCTION;
+  const lower = text.toLowerCase();
+  if (MNEMONICS.has(text.toUpperCase())) return INSTRUCTION;
   if (DIRECTIVES.has(lower)) return lower;
-  const here = hereOf(upper) || (rest[0]?.text.toUpperCase() === "EQU" ? `${cut(text)} = VALUE` : "");
-  const meant = !here && rest.length ? FIRST_WORDS.find((other) => areAlike(text, other)) : undefined;
-  const said = here ? advice("elsewhere", { here }) : meant ? advice("meant", { meant }) : advice("label");
-  throw new Wrong(column, "statement", { name: text, advice: said });
+  const meant = rest.length ? FIRST_WORDS.find((other) => areAlike(text, other)) : undefined;
+  throw new Wrong(column, "statement", { name: text, advice: meant ? advice("meant", { meant }) : advice("label") });
 }
 
 /** Returns what is between commas; nothing, if nothing is written.

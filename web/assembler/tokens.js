@@ -2,7 +2,6 @@
 /* Takes a line of a source apart: names, numbers, strings and marks, each with its column. */
 import { escapes, most } from "../../tools/galluspa/formats/assembler.json";
 import { Wrong } from "./language.js";
-import { SIGNS } from "./others.js";
 
 export const NAME = "name", NUMBER = "number", STRING = "string", MARK = "mark";
 const PATTERN = new RegExp(
@@ -63,8 +62,7 @@ function unknown(line, at) {
   const sign = String.fromCodePoint(Number(line.codePointAt(at)));
   if (sign === '"') return new Wrong(at + 1, "stringEnd");
   if (sign === "'") return new Wrong(at + 1, "character");
-  const known = SIGNS.get(sign);
-  return new Wrong(at + 1, "sign", { sign: quoted(sign), advice: known === undefined ? "" : `: ${known}` });
+  return new Wrong(at + 1, "sign", { sign: quoted(sign) });
 }
 
 /** Returns a character in quotation marks; one that cannot be seen by its number.

@@ -1,6 +1,6 @@
 // @ts-check
-/* Writes what comes of an assembled source: its session, and its symbol file (docs/formats.md, docs/symbols.md). The bytes are those
- * that `galluspa assemble` writes. */
+/* Writes what comes of an assembled source: its session, and its symbol file (docs/formats.md, docs/symbols.md). They say what those of `galluspa assemble`
+ * say. */
 import { INSTRUCTION } from "./statements.js";
 
 const PAGE_BYTES = 1024, WORDS = 2 ** 32, LONGEST_NAME = 200, LONGEST_FILE = 255;
@@ -10,33 +10,12 @@ const NOT_SHOWN = /[\p{C}\p{Zl}\p{Zp}]|(?! )\p{Zs}/gu;
 /** A name of an address or a constant: how many bytes it has, or 0 if that is not known, its kind, and the line that defines it.
  * @typedef {{ address: number, size: number, kind: string, name: string, line: number }} Symbol */
 
-/** Returns a session as JSON, with a page and a few inputs in each line.
+/** Returns a session as JSON, without checkpoints.
  * @param {import("./settings.js").Start} start
  * @param {Bytes} memory */
-export function writtenSession({ registers, h, pc, flags, rate, phase, inputs, checkpoints }, memory) {
-  const counting = rate ? `, "rate": ${rate}, "phase": ${phase}` : "";
-  const start = `{"R": [${registers.join(", ")}], "H": ${h}, "PC": ${pc}, "flags": ${flags}${counting}}`;
-  return [
-    "{",
-    '  "format": "oberon-session",',
-    `  "version": ${rate ? 2 : 1},`,
-    `  "start": ${start},`,
-    `  "pages": ${rows(pagesOf(memory), 1)},`,
-    `  "inputs": ${rows(inputs.map(([count, kind, value]) => `[${count}, "${kind}", ${value}]`), 8)},`,
-    `  "checkpoints": ${rows(checkpoints.map(String), 16)}`,
-    "}\n",
-  ].join("\n");
-}
-
-/**
- * @param {string[]} items
- * @param {number} inRow
- */
-function rows(items, inRow) {
-  if (items.length <= inRow && inRow > 1) return `[${items.join(", ")}]`;
-  const lines = Array.from({ length: Math.ceil(items.length / inRow) }, (_, row) => items.slice(row * inRow, (row + 1) * inRow).join(", "));
-  // No template: web/build leaves out what looks like indentation, and in a template esbuild writes line feeds as they are.
-  return lines.length ? "[\n    " + lines.join(",\n    ") + "\n  ]" : "[]";
+export function writtenSession({ registers, h, pc, flags, rate, phase, inputs }, memory) {
+  const start = { R: registers, H: h, PC: pc, flags, rate, phase };
+  return JSON.stringify({ format: "oberon-session", version: 2, start, pages: pagesOf(memory), inputs, checkpoints: [] });
 }
 
 /** Returns the pages that have a byte other than 0, without the zeros at their ends.
@@ -45,8 +24,7 @@ function pagesOf(memory) {
   const pages = [];
   for (let at = 0; at * PAGE_BYTES < memory.length; at++) {
     const page = memory.subarray(at * PAGE_BYTES, (at + 1) * PAGE_BYTES), length = page.findLastIndex((byte) => byte !== 0) + 1;
-    const digits = Array.from(page.subarray(0, length), (byte) => byte.toString(16).padStart(2, "0")).join("");
-    if (length) pages.push(`{"at": ${at}, "hex": "${digits}"}`);
+    if (length) pages.push({ at, hex: Array.from(page.subarray(0, length), (byte) => byte.toString(16).padStart(2, "0")).join("") });
   }
   return pages;
 }

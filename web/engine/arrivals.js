@@ -79,7 +79,7 @@ export class Arrivals {
   mouse = { word: 0, count: -Infinity, pressed: -Infinity };
 
   /** @param {Waiting} waiting */
-  constructor({ keys, serial, taken = { keys: 0, serial: 0 } } = { keys: [], serial: [] }) {
+  constructor({ keys, serial, taken } = { keys: [], serial: [], taken: { keys: 0, serial: 0 } }) {
     this.keys = new Queue(keys, taken.keys);
     this.serial = new Queue(serial, taken.serial);
   }

@@ -39,7 +39,7 @@ export class Calls {
     const follower = this.of(place);
     return follower.errand.run({ ...given, to: at }, async (turn) => {
       await follower.reach(at, turn, follower.progress(given, at));
-      return { at, state: follower.replayer.state.slice(), calls: follower.log.bytes, first: this.history.procedures.first, since: follower.since };
+      return { at, state: follower.replayer.state.slice(), calls: follower.log.bytes, first: this.history.first, since: follower.since };
     });
   }
 

@@ -41,7 +41,7 @@ export class Frames {
     if (!(isWhole(from) && isWhole(to) && from <= to && width > 0 && rows > 0 && rows <= MOST_ROWS)) throw new Refused("a span goes from a count up to a count");
     const { follower } = this, { replayer, log } = follower;
     return follower.errand.run({ generation, to }, async (turn) => {
-      const end = performance.now() + FRAMES_MS, { first } = this.history.procedures;
+      const end = performance.now() + FRAMES_MS, { first } = this.history;
       if (!this.flame?.isOf(from, to, width) || !follower.isAt(this.flame.upTo)) {
         this.flame = null;
         if (!(await follower.reach(from, turn, undefined, end))) return { from, to, width, first, upTo: from, followed: replayer.count, base: 0, depth: 0, top: NO_ROW, rows: [] };

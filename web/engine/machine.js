@@ -68,18 +68,12 @@ export class Machine extends Playback {
   }
 
   /** Resumes a kept recording, at the state that the machine had, or at its last checkpoint if that was not kept. What came later is
-   * played back, up to `until`. Of a kept session all is played back, from its initial state. It is refused if the parts of what was kept
-   * do not fit together, and the machine stays as it was. The inputs are the user's, or those of a file. One that the browser is to keep on is kept though it has
+   * played back, up to `until`. It is refused if the parts of what was kept do not fit together, and the machine stays as it was. The inputs are the user's, or those of a file. One that the browser is to keep on is kept though it has
    * no inputs: a note was pinned in it.
-   * @param {Kept | (Labels & Whole & { first?: undefined })} kept
+   * @param {Requests["resume"][0]["kept"]} kept
    * @param {{ isOfFile?: boolean, isKeptOn?: boolean }} how */
-  resume({ recording, sentSince, live, inputs: bytes, first, marks = [], count, until = count, waiting, family, ran }, { isOfFile = false, isKeptOn = false } = {}) {
+  resume({ recording, sentSince, live, inputs: bytes, marks = [], count, until = count, waiting, family, ran }, { isOfFile = false, isKeptOn = false } = {}) {
     const inputs = lawfulInputs(bytes);
-    if (first) {
-      this.tryState(first, 0);
-      const checkpoints = [...new Set([...marks, count])].filter(Boolean).sort((one, other) => one - other);
-      return this.begin({ ...first, inputs, checkpoints });
-    }
     const recorded = this.lawful(recording), end = last(recorded.claims).count, from = live ? count : end;
     if (live) this.tryState(live, count);
     if (end > count || until < count || !isBeginning(recorded.inputs, inputs)) throw new Refused("what was kept does not fit together");
@@ -292,14 +286,6 @@ export class Machine extends Playback {
     this.put(this.other, { state, words });
     recorder.extend(this.other, at, this.inputs.bytes.subarray(0, INPUT_BYTES * this.inputs.from(at)));
     return recorder.bytes;
-  }
-
-  /** Returns the session up to here, with the checkpoints of the recording, the last one at this count; or, if there is no room for
-   * one, up to its last checkpoint: what comes after that could not be recorded from the session either. */
-  session() {
-    const { bytes, count } = this.recorded(), end = count < this.count ? this.inputs.from(count) : this.next;
-    const inputs = new Inputs(this.inputs.bytes.subarray(0, INPUT_BYTES * end));
-    return { ...this.firstOf(bytes), inputs, checkpoints: this.marks };
   }
 
   /** Whether what is still played back is kept already. */

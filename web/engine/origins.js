@@ -5,7 +5,6 @@
 import { operandsOf } from "../formats/instructions.js";
 import { AT, DISPLAY_AT, DISPLAY_BYTES, field, MEMORY_BYTES } from "../formats/states.js";
 import { addressIn } from "./records.js";
-import { LOADED } from "./tracing.js";
 
 /** Where the device words begin, and that of the LEDs. */
 export const DEVICES_AT = 0xffffc0, LEDS_AT = 0xffffc4;
@@ -17,8 +16,9 @@ const KEY_WAITS = 0x10000000;
 const MOVE = 0, WITH_CARRY = [8, 9], ACCESS = 2, BRANCH = 3, STORE = 5;
 // The cost of what was on the screen, in computations: by that it is followed later than others.
 const SCREEN_COST = 3;
-/** @type {{ [address: number]: string }} */
-const TAKEN_FROM = { 0xffffc0: "timer", ...LOADED };
+/** What a load from a device word takes: a part of the state.
+ * @type {{ [address: number]: string }} */
+const TAKEN_FROM = { 0xffffc0: "timer", 0xffffc4: "switches", 0xffffc8: "serial", 0xffffcc: "serial", 0xffffd8: "mouse", 0xffffdc: "keys" };
 
 /** An instruction that was done: its count, its place and its word, the states before and after it, and the inputs that came before it.
  * @typedef {{ count: number, pc: number, word: number, before: Bytes, after: Bytes, inputs: Input[] }} Step */

@@ -7,6 +7,12 @@ const INK = 10;
 // How many bytes the shades of a small picture are.
 export const SHADES = SMALL_WIDE * SMALL_HIGH;
 
+/** Returns whether a dot is set, as 1 or 0, by its place from the left and from the top.
+ * @param {Bytes} dots
+ * @param {number} x
+ * @param {number} y */
+export const isSet = (dots, x, y) => (dots[LINE_BYTES * (LINES - 1 - y) + (x >> 3)] >> (x & 7)) & 1;
+
 /** Returns the shades of a small picture of dots: a byte for 8 by 8 of them, 255 for none.
  * @param {Bytes} dots */
 export function shadesOf(dots) {

@@ -7,10 +7,10 @@ export const MOST_NOTES = 1000, LONGEST_NOTE = 2000;
 /** A note: the count to which it is pinned, and its text.
  * @typedef {[number, string]} PinnedNote */
 
-/** Whether a value is a list of notes; or nothing, which earlier builds kept.
+/** Whether a value is a list of notes.
  * @param {any} value
- * @returns {value is PinnedNote[] | undefined} */
-export const areNotes = (value) => value === undefined || (Array.isArray(value) && value.length <= MOST_NOTES && value.every(isNote));
+ * @returns {value is PinnedNote[]} */
+export const areNotes = (value) => Array.isArray(value) && value.length <= MOST_NOTES && value.every(isNote);
 
 /** @param {any} value */
 function isNote(value) {

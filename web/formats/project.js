@@ -96,7 +96,7 @@ export function readProject(text) {
   demand("format", isObject(value) && value.format === FORMAT);
   demand("version", Number.isInteger(value.version));
   if (value.version !== VERSION) throw new Refused(`the project in this file has version ${value.version}, and this page reads version ${VERSION}`);
-  const { name, file = "", sources = [], ran = null, symbols = null, breaks = [], watches = [], notes = [], cursor = null, number = 1, branches = [], lesson = null } = value;
+  const { name, sources = [], file = sources?.[0]?.[0] ?? "", ran = null, symbols = null, breaks = [], watches = [], notes = [], cursor = null, number = 1, branches = [], lesson = null } = value;
   demand("name", isText(name, MOST_NAME) && name);
   demand("sources", areSources(sources));
   demand("file", isText(file, LONGEST_SOURCE) && (!sources.length || sources.some((/** @type {[string, string]} */ [one]) => one === file)));

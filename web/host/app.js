@@ -1,15 +1,14 @@
 // @ts-check
 /* What the page knows of the machine that is open. Others read it, and change it by the functions below. */
 import { attempt } from "./elements.js";
-import { Work } from "./journal.js";
 
 // Fields that are set at start-up.
-const NOT_STARTED = /** @type {{ module: WebAssembly.Module, live: Helper, past: Past }} */ ({});
+const NOT_STARTED = /** @type {{ module: WebAssembly.Module, live: Helper, past: Past, work: Work }} */ ({});
 // `work` is the recording in progress with the name of the machine; `file` is the recording that is open, with its name, its claims
 // and its verdict. `latest` is the last frame of the live machine, and `dots` its screen. `image` is the memory image that is offered.
 /** @type {{ module: WebAssembly.Module, live: Helper, past: Past, work: Work, file: OpenFile | null, latest: Frame | null, dots: Bytes | null,
  *   image: { name: string, bytes: Bytes } | null }} */
-export const app = { ...NOT_STARTED, work: new Work("live"), file: null, latest: null, dots: null, image: null };
+export const app = { ...NOT_STARTED, file: null, latest: null, dots: null, image: null };
 
 /** Takes the module, and the ways to the live machine and to its past.
  * @param {WebAssembly.Module} module

@@ -2,7 +2,7 @@
 /* The page's first script: it unpacks the page's own one, and runs it. The policy of the page names the hashes of both. */
 import { beginWorker, unpacked } from "./packed.js";
 
-// A report that the page makes has the machine as it is before anything changes it, and what follows up to this script, which ends it.
+// A page that is exported has the machine as it is before anything changes it, and what follows up to this script, which ends it.
 const script = document.currentScript, machine = document.getElementById("galluspa"), built = machine?.cloneNode(true);
 Object.assign(globalThis, {
   machineAsBuilt: () => {
@@ -12,9 +12,6 @@ Object.assign(globalThis, {
     return `${copy.innerHTML}\n`;
   },
 });
-
-// A report says its name before the page's own script is there to hear it.
-Object.assign(globalThis, { beginReport: (/** @type {string} */ name) => (document.documentElement.dataset.report = name) });
 
 /** @param {Bytes} bytes */
 function runScript(bytes) {
@@ -46,6 +43,4 @@ function keepClicks() {
 
 const wholePage = document.readyState === "loading" ? new Promise((goOn) => addEventListener("DOMContentLoaded", goOn)) : Promise.resolve();
 const clickAgain = keepClicks();
-// A report, which has the machine in a part of it, starts it at the first use; the page needs these at once.
-const isReport = document.getElementById("live") !== null, begunWorker = isReport ? Promise.resolve() : beginWorker("worker", "module");
-Promise.all([unpacked("main"), begunWorker]).then(([bytes]) => runScript(bytes)).then(() => wholePage).then(clickAgain).catch(showFailure);
+Promise.all([unpacked("main"), beginWorker("worker", "module")]).then(([bytes]) => runScript(bytes)).then(() => wholePage).then(clickAgain).catch(showFailure);

@@ -65,10 +65,6 @@ export function setSource(file, text) {
   changed();
 }
 
-/** Returns the sources whose texts are known, by the names of their files.
- * @returns {[string, string][]} */
-export const sourceTexts = () => [...sources].map(([file, lines]) => [file, lines.join("\n")]);
-
 /** @param {string} file */
 const lastPart = (file) => file.slice(file.lastIndexOf("/") + 1);
 

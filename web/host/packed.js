@@ -54,7 +54,7 @@ export async function begunWorker(name) {
 /** @param {Bytes} script */
 const addressOf = (script) => URL.createObjectURL(new Blob([script], { type: "text/javascript" }));
 
-/** Unpacks what the page contains: its scripts, its module, the sources that it offers, or the recording of a report.
+/** Unpacks what the page contains: its scripts, its module, the sources that it offers, or a project.
  * @param {string} name
  * @returns {Promise<Bytes>} */
 export async function unpacked(name) {

@@ -135,13 +135,6 @@ export class Past {
     return this.ask("around", { at, before, after });
   }
 
-  /** Returns what each word did last that was executed in the last instructions before a count.
-   * @param {number} at
-   * @param {number} before */
-  effects(at, before) {
-    return this.ask("effects", { at, before });
-  }
-
   /** Returns a number for a search: what is posted of it has that number. */
   numbered() {
     return ++this.requests;
@@ -161,14 +154,6 @@ export class Past {
    * @param {Requests["find"][0]} wanted */
   find({ from = 0, to, last = false, conditions, request }) {
     return this.searching("find", { from, to, last, conditions, request });
-  }
-
-  /** Returns all hits of conditions in [from, to), up to a number.
-   * @param {number} from
-   * @param {number} to
-   * @param {Condition[]} conditions */
-  hits(from, to, conditions) {
-    return this.ask("hits", { from, to, conditions });
   }
 
   /** Finds the instruction that wrote what is there at a count.
@@ -200,26 +185,9 @@ export class Past {
     return this.ask("recheck", { at });
   }
 
-  /** Compares a trace with the machine. Returns null if that was ended.
-   * @param {Requests["trace"][0]} given */
-  trace(given) {
-    return this.ask("trace", given);
-  }
-
-  /** Ends the comparison that is under way. */
-  stopTrace() {
-    return this.ask("stopTrace");
-  }
-
   /** Ends the search that is under way. */
   stop() {
     return this.ask("stopSearch");
-  }
-
-  /** Returns how often each word was executed before a count.
-   * @param {number} to */
-  visits(to) {
-    return this.ask("visits", { from: 0, to });
   }
 
   /** Returns the calls that are open at a count. A newer question for the same place ends this one, whose answer is null. What the past says of it between
@@ -237,29 +205,10 @@ export class Past {
     return this.ask("ending", given);
   }
 
-  /** Ends what is asked about calls for a place.
-   * @param {string} place */
-  stopCalls(place) {
-    return this.ask("stopCalls", { place });
-  }
-
   /** Returns the calls of a span, as far as they are known after a while.
    * @param {Requests["frames"][0]} given */
   frames(given) {
     return this.ask("frames", given);
-  }
-
-  /** Returns how many instructions the machine did in each procedure in [from, to).
-   * @param {number} from
-   * @param {number} to */
-  profile(from, to) {
-    return this.ask("profile", { from, to });
-  }
-
-  /** Returns what changed in the cells of a span, as far as it is known.
-   * @param {Requests["changes"][0]} given */
-  changes(given) {
-    return this.ask("changes", given);
   }
 
   /** Returns the counts of the keyframes, how many bytes they take, and how far the past is known. */

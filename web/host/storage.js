@@ -1,10 +1,10 @@
 // @ts-check
-/* The browser's storage of what is kept: a database with one store of items. The connection stays open, so that something can still be
- * written while the page is being left. Other pages may share the storage with this one. */
+/* The browser's storage: a database with one store of records. The connection stays open, so that something can still be written while the page is being
+ * left. Other pages may share the storage with this one. */
 import { Refusal } from "./requests.js";
 import { clearLog, logged, loggedGroups } from "./writeahead.js";
 
-const ITEMS = "sessions", STORAGE_MS = 10000;
+const RECORDS = "sessions", STORAGE_MS = 10000;
 // The open connection, and the one that is being opened.
 /** @type {{ connection: IDBDatabase | null, opening: Promise<IDBDatabase> | null }} */
 export const storage = { connection: null, opening: null };
@@ -20,7 +20,7 @@ export function database() {
 function opened() {
   return new Promise((resolve, reject) => {
     const asked = indexedDB.open("galluspa", 1);
-    asked.onupgradeneeded = () => asked.result.createObjectStore(ITEMS, { keyPath: "id" });
+    asked.onupgradeneeded = () => asked.result.createObjectStore(RECORDS, { keyPath: "id" });
     const late = setTimeout(() => {
       reject(new Refusal("the browser's storage does not answer"));
       asked.onsuccess = () => asked.result.close();
@@ -39,57 +39,43 @@ function connected(connection) {
     connection.close();
     storage.connection = null;
   };
-  storage.connection = Object.assign(connection, { onversionchange: giveUp, onclose: giveUp });
-  writeLogged(connection);
-  return connection;
+  return (storage.connection = Object.assign(connection, { onversionchange: giveUp, onclose: giveUp }));
 }
 
-/** Writes what a page logged while it was left, where nothing was written later. What is asked of the connection after this comes after it. Another page may be left at
- * any time, so what is read comes after this.
+/** Writes what a page logged while it was left, unless something was written later. What is asked of the connection after this comes after it. Another page may be
+ * left at any time, so what is read comes after this.
  * @param {IDBDatabase} connection */
 function writeLogged(connection) {
-  for (const { put, gone, forget } of loggedGroups()) {
-    const transaction = connection.transaction(ITEMS, "readwrite"), store = transaction.objectStore(ITEMS);
-    for (const record of put) ifOlder(store, record.id, timeOf(record), () => store.put(record));
-    for (const id of gone) ifOlder(store, id, timeOf(put[0]), () => store.delete(id));
+  for (const { records, forget } of loggedGroups()) {
+    const [head] = records, transaction = connection.transaction(RECORDS, "readwrite"), store = transaction.objectStore(RECORDS), asked = store.get(head.id);
+    asked.onsuccess = () => {
+      if (!(asked.result?.at >= head.at)) for (const record of records) store.put(record);
+    };
     transaction.oncomplete = forget;
   }
 }
 
-/** Does something if the record of an id is not there, or was written before a time.
- * @param {IDBObjectStore} store
- * @param {IDBValidKey} id
- * @param {number} time
- * @param {() => void} task */
-function ifOlder(store, id, time, task) {
-  const asked = store.get(id);
-  asked.onsuccess = () => timeOf(asked.result) < time && task();
-}
-
-/** Returns when a record was written, in milliseconds since 1970; 0 if it does not say.
- * @param {any} record
- * @returns {number} */
-const timeOf = (record) => Number(record?.changedAt ?? record?.at ?? 0) || 0;
-
-/** Does something with what is kept. Returns the result of the request that `task` returns.
+/** Reads from the store, or writes to it. Returns the results of the requests that `task` makes.
  * @param {IDBTransactionMode} mode
- * @param {(store: IDBObjectStore) => IDBRequest} task
- * @returns {Promise<any>} */
-export async function withKept(mode, task) {
+ * @param {(store: IDBObjectStore) => IDBRequest[]} task
+ * @returns {Promise<any[]>} */
+export async function withStore(mode, task) {
   const connection = await database();
   if (mode === "readonly") writeLogged(connection);
-  return transacted(connection.transaction(ITEMS, mode), task);
+  return transacted(connection, mode, task);
 }
 
 /**
- * @param {IDBTransaction} transaction
- * @param {(store: IDBObjectStore) => IDBRequest} task
- * @returns {Promise<any>}
+ * @param {IDBDatabase} connection
+ * @param {IDBTransactionMode} mode
+ * @param {(store: IDBObjectStore) => IDBRequest[]} task
+ * @returns {Promise<any[]>}
  */
-function transacted(transaction, task) {
-  const asked = task(transaction.objectStore(ITEMS));
+function transacted(connection, mode, task) {
+  const transaction = connection.transaction(RECORDS, mode), asked = task(transaction.objectStore(RECORDS));
+  if (mode === "readwrite") transaction.commit?.();
   return new Promise((resolve, reject) => {
-    transaction.oncomplete = () => resolve(asked.result);
+    transaction.oncomplete = () => resolve(asked.map(({ result }) => result));
     transaction.onabort = () => reject(reasonOf(transaction.error));
   });
 }
@@ -101,16 +87,14 @@ function reasonOf(error) {
   return error?.message ? error : new Refusal(`the browser's storage failed (${error?.name ?? "no reason given"})`);
 }
 
-/** Puts records at once, and deletes those of the ids `gone`. While the page is being left they are logged until the database has them: the browser has
- * the whole transaction when this returns, but drops it if it waits for another one when the page is gone. It needs an open connection.
- * @param {any[]} put
- * @param {{ gone?: string[], isLeaving?: boolean }} more */
-export function writtenAtOnce(put, { gone = [], isLeaving = false } = {}) {
-  if (!storage.connection) return Promise.reject(new Refusal("the browser's storage is not open"));
-  const forget = isLeaving ? logged({ put, gone }) : () => {}, transaction = storage.connection.transaction(ITEMS, "readwrite");
-  const written = transacted(transaction, (store) => (gone.forEach((id) => store.delete(id)), put.map((record) => store.put(record))[0]));
-  transaction.commit?.();
-  return written.finally(forget);
+/** Puts records at once, of which the first one says when they were made. While the page is being left they are logged until the database has them: the browser
+ * has the whole transaction when this returns, but drops it if it waits for another one when the page is gone.
+ * @param {{ id: string, at: number }[]} records
+ * @param {boolean} isLeaving */
+export async function put(records, isLeaving) {
+  const forget = isLeaving ? logged(records) : () => {}, connection = storage.connection ?? (await database());
+  await transacted(connection, "readwrite", (store) => records.map((record) => store.put(record)));
+  forget();
 }
 
 export function deleteStorage() {

@@ -21,7 +21,7 @@ export class Typed {
 
   /** Begins with what waits for the run in the worker. What was answered is in it; the rest came later.
    * @param {Waiting} waiting */
-  begin({ keys, serial, taken = this.taken }) {
+  begin({ keys, serial, taken }) {
     const known = { keys: Uint8Array.from(keys), serial: Uint8Array.from(serial), first: taken };
     Object.assign(this, { taken, pieces: [...(keys.length + serial.length ? [known] : []), ...this.posted] });
   }

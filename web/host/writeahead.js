@@ -4,16 +4,15 @@
 
 const PREFIX = "galluspa-log ", AT_ONCE = 1 << 15;
 
-/** Records to put, and the ids of those to delete.
- * @typedef {{ put: any[], gone: string[] }} Group */
+/** Records that are written together; the first one says when they were made.
+ * @typedef {{ id: string, at?: number }[]} Group */
 
-/** Logs a group of records by the id of its first one. Returns how to take it out of the log. A browser that has no local storage, or no room in it,
- * logs nothing.
- * @param {Group} group */
-export function logged(group) {
-  const key = `${PREFIX}${group.put[0].id}`;
+/** Logs records by the id of the first one. Returns how to take them out of the log. A browser that has no local storage, or no room in it, logs nothing.
+ * @param {Group} records */
+export function logged(records) {
+  const key = `${PREFIX}${records[0].id}`;
   try {
-    const text = JSON.stringify(group, packed);
+    const text = textOf(records);
     localStorage.setItem(key, text);
     return () => localStorage.getItem(key) === text && localStorage.removeItem(key);
   } catch {
@@ -22,14 +21,13 @@ export function logged(group) {
 }
 
 /** Returns the groups that are logged, each with how to take it out of the log. Other pages may have written them: what is no group is taken out.
- * @returns {(Group & { forget: () => void })[]} */
+ * @returns {{ records: any[], forget: () => void }[]} */
 export function loggedGroups() {
   try {
-    const keys = Object.keys(localStorage).filter((key) => key.startsWith(PREFIX));
-    return keys.flatMap((key) => {
-      const group = groupOf(localStorage.getItem(key)), forget = () => localStorage.removeItem(key);
-      if (!group) forget();
-      return group ? [{ ...group, forget }] : [];
+    return Object.keys(localStorage).filter((key) => key.startsWith(PREFIX)).flatMap((key) => {
+      const records = recordsIn(localStorage.getItem(key)), forget = () => localStorage.removeItem(key);
+      if (!records) forget();
+      return records ? [{ records, forget }] : [];
     });
   } catch {
     return [];
@@ -43,23 +41,26 @@ export function clearLog() {
 
 /** @param {string | null} text
  * @returns {Group | null} */
-function groupOf(text) {
+function recordsIn(text) {
   try {
-    const { put, gone } = JSON.parse(text ?? "", unpacked);
-    const areRecords = Array.isArray(put) && put.length > 0 && put.every((record) => ["string", "number"].includes(typeof record?.id));
-    return areRecords && Array.isArray(gone) && gone.every((id) => typeof id === "string") ? { put, gone } : null;
+    const records = JSON.parse(text ?? "", unpacked);
+    return Number.isFinite(records[0].at) && records.every((/** @type {any} */ record) => typeof record.id === "string") ? records : null;
   } catch {
     return null;
   }
 }
 
-/** Returns bytes as JSON has them here, and other values as they are.
- * @param {string} _
+/** Returns a value as JSON, with bytes as base64.
  * @param {unknown} value */
+export const textOf = (value) => JSON.stringify(value, packed);
+
+/** @param {string} _
+ * @param {any} value */
 function packed(_, value) {
-  if (!(value instanceof Uint8Array)) return value;
+  if (!ArrayBuffer.isView(value)) return value;
+  const bytes = new Uint8Array(value.buffer, value.byteOffset, value.byteLength);
   let text = "";
-  for (let at = 0; at < value.length; at += AT_ONCE) text += String.fromCharCode(...value.subarray(at, at + AT_ONCE));
+  for (let at = 0; at < bytes.length; at += AT_ONCE) text += String.fromCharCode(...bytes.subarray(at, at + AT_ONCE));
   return { base64: btoa(text) };
 }
 

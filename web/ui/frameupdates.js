@@ -7,7 +7,7 @@ import { followDevices, showSerial } from "./screen/devices.js";
 import { attempt, notice, set, write } from "../host/elements.js";
 import { publish } from "../host/events.js";
 import { isSnake } from "./screen/game.js";
-import { keep, noteNews } from "../host/autosave.js";
+import { keepRun, noteNews } from "../host/work.js";
 import { showMode } from "./timeline/cursormoves.js";
 import { drawSoon, endPreview } from "./screen/screen.js";
 import { meetBreak } from "./code/search.js";
@@ -46,7 +46,7 @@ function showFrame(frame) {
   showMode(frame);
   if (showStatus(frame) && !isPast()) showCursor(!frame.on);
   showSerial(frame);
-  if (wasOn && !frame.on) keep();
+  if (wasOn && !frame.on) keepRun();
   // A short run begins and ends between two frames.
   const isMoved = !frame.on && before !== undefined && countOf(before) !== countOf(frame.state);
   if (wasOn !== frame.on || isMoved) attempt(showAround), showSourceNow(), followTimes();

@@ -4,11 +4,12 @@ import { showPaused, showRegisters } from "./code/statetab.js";
 import { showFollowed } from "./code/calls.js";
 import { showAround } from "./code/code.js";
 import { showCounting } from "./code/counts.js";
+import { showFalse } from "./code/differences.js";
 import { sourceEditor } from "./source/desk.js";
 import { followTimes, forgetTimes, showExecuted } from "./source/linetimes.js";
 import { attempt } from "../host/elements.js";
 import { subscribe } from "../host/events.js";
-import { keepDeskSoon } from "../host/autosave.js";
+import { keepSoon } from "../host/keeping.js";
 import { endPlayback, showKept } from "./files/savedlist.js";
 import { showCode, showListing } from "./code/listing.js";
 import { showMemory, showWatches } from "./code/memory.js";
@@ -19,7 +20,6 @@ import { AT, field } from "../formats/states.js";
 import { showStepping } from "./source/stepping.js";
 import { showPins } from "./timeline/pinned.js";
 import { freshen } from "./timeline/loading.js";
-import { showTracing } from "./code/traces.js";
 import { showAsked, showLastWriter } from "./code/lastwriter.js";
 import { forgetWhy, showFollowing, showWhy } from "./code/why.js";
 
@@ -34,6 +34,7 @@ export function subscribePanels() {
   subscribe("running", forgetFinding);
   subscribe("looking", leaveOther);
   subscribe("moment", ({ state }) => showRegisters(state));
+  subscribe("registers", () => attempt(showFalse));
   subscribe("settled", ({ state, listing }) => showListing(field(state, AT.PC), (listing ?? []).map(({ pc, word }) => [pc, word])), around, memory, showSourceNow, followTimes);
   subscribe("now", ({ state, listing }) => showPaused(state, listing), followTimes);
   subscribe("searched", showSearched, showAsked, showFollowing);
@@ -44,9 +45,8 @@ export function subscribePanels() {
   subscribe("counted", showCounting);
   subscribe("pins", showPins);
   subscribe("ended", () => attempt(endPlayback));
-  for (const name of /** @type {const} */ (["breaks", "watches", "pins", "settled", "now"])) subscribe(name, keepDeskSoon);
+  for (const name of /** @type {const} */ (["breaks", "watches", "pins", "settled", "now"])) subscribe(name, keepSoon);
   subscribe("followed", showFollowed, showStepping);
-  subscribe("traced", showTracing);
 }
 
 /** Shows what is in a tab that has come in sight.

@@ -1,49 +1,47 @@
 // @ts-check
 /* Starts the page: its workers, and what its controls do. */
 import { app, setMachine } from "../host/app.js";
-import { askPart, makeRegisters, showClaim, showMe } from "./code/statetab.js";
-import { listenToProfile } from "./code/counts.js";
+import { askPart, makeRegisters, showClaim } from "./code/statetab.js";
+import { showMe } from "./code/differences.js";
 import {
   cancelSerial, compose, enterSends, letGo, listenToKeyboard, makeDevices, mouseByFields, pointed, pressed, sendFile, sendSerial, switched,
 } from "./screen/devices.js";
 import { playDemo } from "./screen/demo.js";
 import { attempt, closeMenus, el, keepInWindow, notice, on } from "../host/elements.js";
 import { heard } from "./frameupdates.js";
-import { isDeskUnsafe, isNoteUnsafe, isUnsafe, keep, KEEP_MS, keepAtOnce, keepDesk } from "../host/autosave.js";
+import { isUnsafe, KEEP_MS, keepAll } from "../host/keeping.js";
 import "./files/board.js";
-import { exportProject } from "./report/exporting.js";
+import { exportProject } from "./files/exporting.js";
 import { forgetAll, pinOpen, renameOpen, showKept } from "./files/savedlist.js";
 import { showFirst, showLessons } from "./source/lessons.js";
 import { listenToTimes } from "./source/linetimes.js";
-import { listenToListing, showWord } from "./code/listing.js";
+import { listenToListing } from "./code/listing.js";
 import { heardPast } from "./timeline/cursormoves.js";
 import { listenToMemory } from "./code/memory.js";
 import { Past } from "../host/pastclient.js";
 import { openOwn } from "./files/projects.js";
-import { cancelImage, isAnyUnkept, openChosen, openExample, openFiles, openImage, runOnFrom } from "./files/opening.js";
+import { cancelImage, openChosen, openExample, openFiles, openImage, runOnFrom } from "./files/opening.js";
 import { unpacked } from "../host/packed.js";
 import { subscribePanels } from "./panels.js";
 import { clearRefusal } from "./screen/refusal.js";
-import { listenToReports } from "./report/reporting.js";
 import { Helper, placeWorker } from "../host/requests.js";
 import { listenToPins } from "./timeline/pinned.js";
 import { mark, setRun, takeOver } from "./timeline/running.js";
-import { saveRecording, saveSession, saveToCursor } from "./files/saving.js";
+import { saveRecording, saveToCursor } from "./files/saving.js";
 import { fitScreen, savePicture, showFull } from "./screen/screen.js";
 import { listenToSearch } from "./code/search.js";
 import { everySeconds, isFast } from "../host/shown.js";
 import { padPressed, playSnake } from "./screen/snake.js";
 import { keepLineInSight, listenToSource } from "./source/source.js";
-import { isSourceUnsafe, keepSources, keepSourcesAtOnce } from "./source/sourceautosave.js";
 import { listenToNames } from "./code/symbolfiles.js";
 import { showTab, tabByKey, TABS } from "./screen/tabs.js";
 import { messageOf } from "../formats/texts.js";
 import { drawLanes } from "./timeline/drawing.js";
 import { freshen } from "./timeline/loading.js";
 import { makeTimeline, measureTrack } from "./timeline/timeline.js";
-import { listenToTraces } from "./code/traces.js";
 import { listenToTime } from "./transport.js";
 import { verdicts } from "./screen/verdicts.js";
+import { isNoteUnsafe } from "../host/work.js";
 
 function listen() {
   listenToFiles();
@@ -65,10 +63,7 @@ function listen() {
   listenToTimes();
   on("lessons", "toggle", showLessons);
   listenToListing();
-  listenToProfile((address) => showWord(address >>> 2));
   listenToNames();
-  listenToTraces();
-  listenToReports();
   listenToPins();
   listenToWindow();
 }
@@ -82,7 +77,6 @@ function listenToFiles() {
   on("choose", "click", () => el("file").click());
   on("image", "submit", openImage);
   on("image-cancel", "click", cancelImage);
-  on("save-session", "click", saveSession);
   on("save-recording", "click", saveRecording);
   on("save-cursor", "click", saveToCursor);
   on("show-false", "click", showMe);
@@ -129,13 +123,13 @@ function listenToWindow() {
   addEventListener("fullscreenchange", showSized);
   const above = new ResizeObserver(fitScreen);
   for (const part of [el("stay"), document.querySelector("#galluspa .top")]) if (part) above.observe(part);
-  const allAtOnce = () => [keepAtOnce, keepDesk, keepSourcesAtOnce].forEach((keepIt) => attempt(() => keepIt(true)));
-  setInterval(() => (keep(true), attempt(keepDesk), attempt(() => keepSources({ isPlaceToo: true }))), KEEP_MS);
-  document.addEventListener("visibilitychange", () => (allAtOnce(), keep()));
-  addEventListener("pagehide", allAtOnce);
+  const keepAtOnce = () => keepAll({ isLeaving: true });
+  setInterval(() => keepAll({ isByTime: true }), KEEP_MS);
+  document.addEventListener("visibilitychange", () => (keepAtOnce(), keepAll({ isSaidAgain: true })));
+  addEventListener("pagehide", keepAtOnce);
   addEventListener("beforeunload", (event) => {
-    if (isAnyUnkept() || isUnsafe() || isNoteUnsafe() || isDeskUnsafe() || isSourceUnsafe()) event.preventDefault();
-    allAtOnce();
+    if (isUnsafe() || isNoteUnsafe()) event.preventDefault();
+    keepAtOnce();
   });
 }
 
@@ -158,7 +152,7 @@ function dropFiles() {
 }
 
 /** Starts the machine. Returns whether this browser can run it. */
-export async function started() {
+async function started() {
   // The worker starts while the page makes its parts. What fails is said after that.
   const begun = startLive();
   begun.catch(() => {});

@@ -6,7 +6,9 @@ import { desk, editor } from "./source/desk.js";
 import { runningProgram } from "./source/sourceprogram.js";
 import { verdicts } from "./screen/verdicts.js";
 import { app } from "../host/app.js";
+import { isUnsafe } from "../host/keeping.js";
 import { names } from "../host/names.js";
+import { timeline } from "./timeline/span.js";
 import { isPast, cursor, nowCount, shownCount, shownState } from "../host/shown.js";
 import { AT, field } from "../formats/states.js";
 
@@ -18,7 +20,8 @@ const partOf = (state, name, word) => (state ? field(state, AT[name] + 4 * word)
 
 /** Returns what a test may know of the recording in progress.
  * @param {Work} work */
-const workOf = ({ name, generation, branch, number, sent, kept, isStored, isNewer, isPinned, about }) => ({ name, generation, branch, number, sent, kept, isStored, isNewer, isPinned, about });
+const workOf = ({ name, generation, branch, number, sent, kept, isStored, isNewer, isPinned, head }) =>
+  ({ name, generation, branch, number, sent, kept, isStored, isNewer, isPinned, head: head && { ...head, since: undefined, shades: undefined } });
 
 const QUESTIONS = {
   // The machine: its last frame (null before the first one), its count, and parts of its state.
@@ -31,10 +34,14 @@ const QUESTIONS = {
   shownCount,
   shownPart: (/** @type {keyof typeof AT} */ name, word = 0) => partOf(shownState(), name, word),
   moment: () => cursor.moment,
-  // What is open: the recording in progress, and what would be written of it now; the file, with its bytes and its verdict, or null; the file of the names, and
+  // The counts between which the timeline is in sight.
+  span: () => [timeline.from, timeline.to],
+  // What is open: the recording in progress; the file, with its bytes and its verdict, or null; the file of the names, and
   // how many they are; the source, whether it is assembled as it is, and whether it runs.
   work: () => workOf(app.work),
-  unwritten: () => app.work.since,
+  // Whether something is lost if the page is left; and what would be written of the recording in progress.
+  isUnsafe,
+  unwritten: () => app.work.base && app.work.sinceOf(app.work.base),
   file: () => app.file,
   names: () => ({ from: names.from, size: names.symbols.size }),
   source: () => ({ file: desk.file, isAssembled: desk.made !== null && desk.version === editor?.version, isRunning: runningProgram() !== null }),

@@ -16,7 +16,6 @@ import { isAhead, isPast, isPlaying, nowCount, shownCount, shownState } from "..
 import { AT, field } from "../formats/states.js";
 import { isStepping, stepInto, stepOut, stepOver, stopStepping } from "./source/stepping.js";
 import { inputTaken } from "./timeline/taking.js";
-import { forgetSelected } from "./timeline/drawing.js";
 import { claimMarks, lanes } from "./timeline/lanes.js";
 import { showSpan, zoom, ZOOM } from "./timeline/loading.js";
 import { trackMoved, trackPressed, trackReleased, wheeled, zoomToCall } from "./timeline/pointer.js";
@@ -104,7 +103,6 @@ function openMore(field) {
 
 /** Ends the search that is under way, or else goes to now. */
 function endOrNow() {
-  forgetSelected();
   if (isStepping()) return stopStepping();
   return finding.isOn || asking?.isOn || isFollowing() ? stopSearch() : backToNow();
 }

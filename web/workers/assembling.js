@@ -1,9 +1,8 @@
 // @ts-check
-/* What the worker that assembles does: it makes a program of a source, and its session, whose last checkpoint it looks for. */
+/* What the worker that assembles does: it makes a program of a source, judges it, and finds where two runs part. */
 import { firstLine } from "../engine/aligning.js";
 import { assembled } from "../assembler/assembly.js";
 import { Emulator } from "../engine/emulator.js";
-import { endOf } from "../engine/endings.js";
 import { readSession } from "../formats/sessions.js";
 import { judgedByModel, runTo } from "../engine/handins.js";
 import { judged } from "../engine/judging.js";
@@ -19,7 +18,7 @@ import { linesOf, writtenSession, writtenSymbols } from "../assembler/written.js
 
 // How many problems are posted at most.
 const MOST_PROBLEMS = 1000, STEP_MS = 20, PARTING_SECONDS = 120, POST_MS = 500;
-// The number of the newest session that is made: it ends the ones before.
+// The number of the newest request: it ends the ones before.
 let newest = 0;
 
 /** @typedef {import("../assembler/assembly.js").Problem} Problem */
@@ -51,10 +50,9 @@ function assemble(given) {
   const made = assembled(linesGiven(given)), settings = settingsOf(made);
   if (made.problems.length) return { ...sorted(made), program: null };
   const filled = made.filledRegions().reduce((bytes, { start, end }) => bytes + end - start, 0), { session } = settings;
-  const hasCheckpoints = Boolean(settings.counts.size || settings.every || settings.until);
   const program = {
-    memory: made.memory, session: writtenSession({ ...session, checkpoints: [] }, made.memory), words: Math.ceil(filled / 4),
-    symbols: writtenSymbols(made), lines: linesOf(made), inputs: session.inputs.length, hasCheckpoints,
+    memory: made.memory, session: writtenSession(session, made.memory), words: Math.ceil(filled / 4),
+    symbols: writtenSymbols(made), lines: linesOf(made), inputs: session.inputs.length,
   };
   return { problems: [], number: 0, program };
 }
@@ -157,31 +155,11 @@ function seen({ bytes }) {
   return { dots: words.slice(DISPLAY_AT, DISPLAY_AT + DISPLAY_BYTES), ...library.check(bytes) };
 }
 
-/** Makes the session of a source with its checkpoints, as `galluspa assemble` writes it: the last of them may be where the program stops,
- * or enters a loop. It is given up after some seconds, and if another one is asked for.
- * @param {Requests["sessionOf"][0]} given
- * @returns {Promise<SessionOf>} */
-async function sessionOf({ seconds, ...given }) {
-  const made = assembled(linesGiven(given)), settings = settingsOf(made), turn = turnsOf(seconds);
-  if (made.problems.length) return { ...sorted(made), session: null, notes: [] };
-  const { until, session } = settings;
-  const found = until ? await endOf(machine, readSession(new TextEncoder().encode(writtenSession(session, made.memory))), settings, turn) : null;
-  if (until && found && "text" in found) made.problems.push({ line: until.line, column: until.name.column, text: found.text });
-  else settings.setCheckpoints(found && "count" in found ? found.count : null);
-  if (made.problems.length) return { ...sorted(made), session: null, notes: [] };
-  return { problems: [], number: 0, session: writtenSession(session, made.memory), notes: settings.notes().map((one) => placed(one, made.places)) };
-}
-
 export const ASSEMBLER = {
   assemble,
-  sessionOf: (/** @type {Requests["sessionOf"][0]} */ given) => sessionOf(given).catch(unlessEnded(null)),
   parting: (/** @type {Requests["parting"][0]} */ given) => parting(given).catch(unlessEnded(null)),
   seen,
   handIn: (/** @type {Requests["handIn"][0]} */ given) => handIn(given).catch(unlessEnded(null)),
   handInParting: (/** @type {Requests["handInParting"][0]} */ given) => handInParting(given).catch(unlessEnded(null)),
   judge: (/** @type {Requests["judge"][0]} */ given) => judge(given).catch(unlessEnded(null)),
-  /** Ends what is made. */
-  endSession() {
-    newest++;
-  },
 };

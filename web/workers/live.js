@@ -3,7 +3,7 @@
 import { Feed } from "../engine/feed.js";
 import { beginRun, countMachine, fork, generation, show } from "./frames.js";
 import { noRun, replaceRun, run } from "./run.js";
-import { readImage, readSession, writeSession } from "../formats/sessions.js";
+import { readImage, readSession } from "../formats/sessions.js";
 import { Refused, unlessRefused } from "../formats/refused.js";
 import { hashOf, wordsOf } from "../formats/states.js";
 import { library, machine } from "./context.js";
@@ -169,9 +169,6 @@ export const LIVE = {
    * @param {Requests["claimed"][0]} given */
   claimed({ number, of }) {
     return of === generation ? machine.claimed(number) : null;
-  },
-  session() {
-    return made(new TextEncoder().encode(writeSession(machine.session())));
   },
   recording() {
     return made(machine.recorded().bytes);

@@ -1,7 +1,8 @@
 // @ts-check
 /* What the live worker says for the page's timeline: the inputs of a span by columns, the checkpoints, and what is next to a count; and
- * what a checkpoint claims of memory. */
+ * what a checkpoint claims. */
 import { machine } from "./context.js";
+import { copied } from "../engine/emulator.js";
 import { generation } from "./frames.js";
 
 // How many inputs of a column are examined, and how many of a lane are listed as text.
@@ -29,16 +30,11 @@ export const QUERIES = {
   words({ from, length, of }) {
     return of === generation ? machine.words.slice(from, from + length) : null;
   },
-  /** Returns the bytes that a checkpoint of the recording claims to be sent since the one before, or null if the recording is gone.
-   * @param {Requests["claimedOutput"][0]} given */
-  claimedOutput({ number, of }) {
-    return (of === generation && machine.recording?.claims[number]?.sent) || null;
-  },
-  /** Returns the bytes of memory that a checkpoint of the recording claims, or null if the recording is gone.
-   * @param {Requests["claimedMemory"][0]} given */
-  claimedMemory({ number, from, length, of }) {
-    if (of !== generation || !machine.recording) return null;
-    return machine.claimedBy(number).words.slice(from, from + length);
+  /** Returns all that a checkpoint of the recording claims, or null if the recording is gone.
+   * @param {Requests["claimedWhole"][0]} given */
+  claimedWhole({ number, of }) {
+    const sent = machine.recording?.claims[number]?.sent;
+    return of === generation && sent ? { ...copied(machine.claimedBy(number)), sent } : null;
   },
 };
 

@@ -13,15 +13,13 @@ import { HitLists } from "../engine/hitlists.js";
 import { Inputs } from "../formats/inputs.js";
 import { readRecording } from "../formats/recordings.js";
 import { Keyframes } from "../engine/keyframes.js";
-import { Procedures } from "../engine/procedures.js";
 import { MOST_BEFORE, Recent } from "../engine/recent.js";
 import { Refused } from "../formats/refused.js";
 import { Replayer } from "../engine/replayer.js";
 import { Finder } from "../engine/finder.js";
 import { Stacks } from "../engine/stacks.js";
-import { joined, MEMORY_BYTES, PAGES, wordsOf } from "../formats/states.js";
+import { AT, field, joined, MEMORY_BYTES, PAGES, wordsOf } from "../formats/states.js";
 import { Ended, isWhole, nextTask, unlessEnded } from "../engine/tasks.js";
-import { Tracing } from "../engine/tracing.js";
 import { Visits } from "../engine/visits.js";
 import { Writers } from "../engine/writers.js";
 
@@ -81,13 +79,16 @@ export class History {
     this.activity = new Activity(this);
     this.visits = new Visits(this);
     this.calls = new Calls(this);
-    this.procedures = new Procedures(this);
     this.frames = new Frames(this);
     this.lists = new HitLists(this);
     this.recent = new Recent(this);
     this.executions = new Executions(this);
     this.writers = new Writers(this);
-    this.tracing = new Tracing(this);
+  }
+
+  /** The word at which the machine was before its first instruction. */
+  get first() {
+    return field(this.keyframes.items[0].state, AT.PC);
   }
 
   // What the live machine says
@@ -141,10 +142,9 @@ export class History {
     this.epoch++;
     this.looker.forget();
     this.searcher.forget();
-    for (const follower of [this.calls, this.procedures, this.frames]) follower.forget();
+    for (const follower of [this.calls, this.frames]) follower.forget();
     this.lists.errand.forget();
     this.executions.forget();
-    this.tracing.errand.forget();
   }
 
   /** @param {LiveKeyframe} keyframe */

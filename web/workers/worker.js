@@ -42,9 +42,6 @@ const PAST = {
   ending: (/** @type {Requests["ending"][0]} */ given) => history.calls.ending(given),
   stopCalls: (/** @type {Requests["stopCalls"][0]} */ given) => history.calls.stop(given),
   frames: (/** @type {Requests["frames"][0]} */ given) => history.frames.frames(given),
-  profile: (/** @type {Requests["profile"][0]} */ given) => history.procedures.profile(given),
-  trace: (/** @type {Requests["trace"][0]} */ given) => history.tracing.trace(given),
-  stopTrace: () => history.tracing.stop(),
   stopSearch: () => history.finder.stop(),
   /** Takes one more worker for searches, by its port.
    * @param {{ port: MessagePort }} given */

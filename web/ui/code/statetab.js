@@ -1,28 +1,22 @@
 // @ts-check
-/* The registers of the machine, the checkpoints of a recording, and where the two differ. */
+/* The registers of the machine, and the checkpoints of a recording. */
 import { bothOf } from "../../host/addresses.js";
 import { app } from "../../host/app.js";
 import { showAround } from "./code.js";
-import { ALL_BITS } from "../../formats/conditions.js";
-import { otherDifferences, whereWrong } from "./differences.js";
 import { DOTS_WIDE, LINES } from "../../formats/dots.js";
 import { attempt, button, el, made, named, paragraph } from "../../host/elements.js";
+import { publish } from "../../host/events.js";
 import { showListing } from "./listing.js";
-import { moveCursor, runTo } from "../timeline/cursormoves.js";
 import { showMemory } from "./memory.js";
 import { whereText } from "../../host/names.js";
 import { paint } from "../screen/screen.js";
-import { falseClaim, isAhead, isTab, nowCount, shownCount, shownState } from "../../host/shown.js";
-import { AT, equal, field, hex, PAGE_BYTES, partsOf, rangesText, REGISTERS_ASKED, sentText, STATE_BYTES, wordsOf } from "../../formats/states.js";
-import { showTab } from "../screen/tabs.js";
+import { falseClaim, isTab } from "../../host/shown.js";
+import { AT, equal, field, partsOf, rangesText, REGISTERS_ASKED, STATE_BYTES } from "../../formats/states.js";
 import { grouped } from "../../formats/texts.js";
 import { notePassed } from "../timeline/lanes.js";
-import { headlineOf } from "../screen/verdicts.js";
 import { askLastWriter } from "./lastwriter.js";
 
 export const DEVICES_ASKED = ["stop", "switches", "LEDs", "mouse", "serial", "keys"];
-/** A part of the machine beside what is claimed of it.
- * @typedef {{ name: string, own: string, claimed: string | undefined, about: About | null }} BothParts */
 
 // The cells of the registers by their names, made once: a drag of the cursor changes texts, and makes nothing. The state that was shown
 // before, while the machine did not run, to mark what changed. While it runs, they are shown so often.
@@ -63,7 +57,7 @@ function cellOf(name, text) {
 /** What is asked about a part of a state: a register or a part of a device; or null if nothing can be.
  * @param {string} name
  * @returns {About | null} */
-function aboutPart(name) {
+export function aboutPart(name) {
   const register = REGISTERS_ASKED.indexOf(name);
   return register >= 0 ? { register } : DEVICES_ASKED.includes(name) ? { device: name } : null;
 }
@@ -73,13 +67,18 @@ export function askPart(name) {
   return askLastWriter(aboutPart(name) ?? {}, `Who wrote ${name}`);
 }
 
-/** Shows the parts of a state, with what has changed since the one shown before marked, and beside them what a checkpoint here claims
- * falsely.
+/** Shows the parts of a state, with what has changed since the one shown before marked.
  * @param {Bytes} state */
 export function showRegisters(state) {
   showParts(state, registersBefore);
   registersBefore = state;
-  attempt(showFalse);
+  publish("registers");
+}
+
+/** Marks the part that a checkpoint claims falsely, or none.
+ * @param {string | null} part */
+export function markWrong(part) {
+  for (const [name, { value }] of registerCells) value.classList.toggle("wrong", name === part);
 }
 
 /** Writes the parts of a state to their cells, and marks those that are others than before, if anything was.
@@ -198,90 +197,4 @@ function claimParts({ number, count, steps, state, before, dots, sent, sentLengt
   output.setAttribute("role", "region");
   output.setAttribute("aria-label", `Bytes sent at checkpoint ${number}`);
   return [...parts, paragraph(`Sent since the checkpoint before, ${grouped(sentLength)} bytes:`, "hint"), output];
-}
-
-// A false checkpoint
-
-/** Returns the false checkpoint that the verdict line of the file names: its number, its count and its part; or null. */
-/** Shows a headline for a false checkpoint, and the way to what the machine has there; at its count, both parts side by side. */
-export async function showFalse() {
-  const wrong = falseClaim(), place = el("false-claim");
-  for (const [name, { value }] of registerCells) value.classList.toggle("wrong", name === wrong?.part && shownCount() === wrong.count && !isAhead());
-  place.hidden = !wrong;
-  if (!wrong) return;
-  const { count } = wrong, headline = made("b", headlineOf({ wrong, accepted: null }));
-  if (shownCount() !== count || isAhead() || app.latest?.on)
-    return place.replaceChildren(headline, " ", button("What the machine has", () => toMachineAt(count)), whereWrong(wrong));
-  const both = await bothParts(wrong), mark = made("span", "");
-  if (shownCount() !== count) return;
-  place.replaceChildren(headline, ...(both ? bothLines(both) : []), whereWrong(wrong), mark);
-  const others = await otherDifferences(wrong, outputThatDiffers);
-  if (shownCount() === count) mark.replaceWith(...others);
-}
-
-/** Returns what the machine has at a false checkpoint, and what is claimed; or null if it is no part of a state, nor of memory.
- * @param {Wrong} wrong */
-async function bothParts(wrong) {
-  const page = /^page (\d+)$/.exec(wrong.part);
-  if (page) return bytesThatDiffer(wrong, Number(page[1]));
-  if (wrong.part === "out") return outputThatDiffers(wrong);
-  const shown = await app.live.ask("claimed", { number: wrong.number, of: app.work.generation });
-  return shown && shownCount() === wrong.count ? partsThatDiffer(shown.state, wrong.part) : null;
-}
-
-/** @param {BothParts} both */
-function bothLines({ name, own, claimed, about }) {
-  const line = paragraph(`${name}: the machine has ${own}, the recording claims ${claimed}.`, "both");
-  return about ? [line, button("Find the cause", () => askLastWriter(about, `Who wrote ${name}`))] : [line];
-}
-
-/** Goes to the false checkpoint of the file that is open, and shows the registers there. */
-export async function showMe() {
-  const wrong = falseClaim();
-  if (!wrong) return;
-  showTab("state");
-  await toMachineAt(wrong.count);
-}
-
-/** Looks at what the machine has at a count, to which a replay runs first: before, there is only what the file claims.
- * @param {number} count */
-function toMachineAt(count) {
-  return nowCount() < count ? runTo(count) : moveCursor(count);
-}
-
-/**
- * @param {Bytes} claimedState
- * @param {string} part
- * @returns {BothParts | null}
- */
-function partsThatDiffer(claimedState, part) {
-  const [own, claimed] = [shownState(), claimedState].map((state) => new Map(partsOf(state)).get(part));
-  return own === undefined ? null : { name: part, own, claimed, about: aboutPart(part) };
-}
-
-/** Returns the first byte that was sent since the checkpoint before and is other than what the false checkpoint claims.
- * @param {Wrong} wrong
- * @returns {Promise<BothParts | null>} */
-async function outputThatDiffers({ number, count }) {
-  const from = app.file?.claims[number - 1] ?? 0, claimed = await app.live.ask("claimedOutput", { number, of: app.work.generation });
-  const found = await app.past.ask("output", { at: count, from });
-  if (!found || !claimed) return null;
-  const own = found.bytes, length = Math.max(own.length, claimed.length);
-  let at = 0;
-  while (at < length && own[at] === claimed[at]) at++;
-  const [one, other] = [own, claimed].map((bytes) => (at < bytes.length ? `${hex(bytes[at], 2)} (${sentText(bytes.subarray(at, at + 1))})` : "no more"));
-  return { name: `byte ${grouped(at + 1)} sent after checkpoint ${number - 1}`, own: `${one} of ${grouped(own.length)}`, claimed: `${other} of ${grouped(claimed.length)}`, about: null };
-}
-
-/** Returns the first word of a page that differs from what the false checkpoint claims.
- * @param {Wrong} wrong
- * @param {number} page
- * @returns {Promise<BothParts | null>} */
-async function bytesThatDiffer({ number, count }, page) {
-  const from = PAGE_BYTES * page, claimed = await app.live.ask("claimedMemory", { number, from, length: PAGE_BYTES, of: app.work.generation });
-  const own = await app.past.memory(count, from, PAGE_BYTES);
-  if (!own || !claimed) return null;
-  const [words, others] = [own.bytes.slice(), claimed].map(wordsOf), at = words.findIndex((word, number) => word !== others[number]);
-  const address = from + 4 * at;
-  return { name: `the word at ${hex(address, 5)}`, own: hex(words[at], 8), claimed: hex(others[at], 8), about: { address, mask: ALL_BITS } };
 }

@@ -1,7 +1,6 @@
 // @ts-check
 /* Symbol files and sources that are opened in the page: read, refused, and kept with the machine. */
 import { app } from "../../host/app.js";
-import { keep } from "../../host/autosave.js";
 import { isEdited, misfit } from "../../formats/builds.js";
 import { attempt, button, el, named, notice, write } from "../../host/elements.js";
 import { forgetNames, names, namesText, onNames, setNames, setSource } from "../../host/names.js";
@@ -35,8 +34,7 @@ export async function openSymbols(name, bytes) {
   if (number !== opened) return;
   const told = memory ? misfit(symbols, name, bytes, memory.bytes) : "";
   notice(`${namesText()}.${told && ` ${told}.`}`);
-  app.work.kept = "";
-  keep();
+  attempt(() => app.work.keepAnew());
 }
 
 /** @param {Bytes} bytes */
@@ -81,8 +79,7 @@ export function dropNames() {
 function showNames() {
   const { from } = names, drop = button("Remove", () => {
     dropNames();
-    app.work.kept = "";
-    return keep();
+    return app.work.keepAnew();
   });
   el("names-of").hidden = !from;
   if (from) el("names-of").replaceChildren(`${many(names.symbols.size, "name")} from `, named(from), " ", drop);

@@ -8,6 +8,7 @@ import { DISPLAY_AT, flagsText, hex, MEMORY_BYTES, rangesText } from "../../form
 import { LINE_BYTES } from "../../formats/dots.js";
 import { lineOf, placeText } from "../../host/names.js";
 import { markLinks } from "../timeline/answers.js";
+import { listLanes } from "../timeline/cursor.js";
 import { drawLanes } from "../timeline/drawing.js";
 import { isAhead } from "../../host/shown.js";
 import { sourceText } from "../../formats/shownnames.js";
@@ -31,8 +32,7 @@ export const isFollowing = () => following?.isOn === true;
 export function forgetWhy() {
   if (isFollowing()) attempt(() => app.past.stop());
   following = null;
-  markLinks([]);
-  drawLanes();
+  showLinks([]);
 }
 
 /** Follows a value back from a count, and shows the links as they are found. A click on one calls `jump`.
@@ -74,8 +74,15 @@ export function showWhy({ request, values }) {
   const shown = found.map((row) => rowOf(row)), kept = new Set(shown);
   for (const item of [...list.children]) if (!kept.has(/** @type {HTMLElement} */ (item))) item.remove();
   shown.forEach((item, at) => list.children[at] === item || list.insertBefore(item, list.children[at] ?? null));
-  markLinks(found.flatMap((row) => (row.count === null ? [] : [{ number: row.number, count: row.count, use: row.it.before, what: textOf(row.it) }])));
+  showLinks(found.flatMap((row) => (row.count === null ? [] : [{ number: row.number, count: row.count, use: row.it.before, what: textOf(row.it) }])));
+}
+
+/** Shows links in the timeline, and lists them there.
+ * @param {Parameters<typeof markLinks>[0]} links */
+function showLinks(links) {
+  markLinks(links);
   drawLanes();
+  listLanes();
 }
 
 /** Returns the values of a tree as rows: each value, and then those from which it was made. Numbers of instructions have no row: their instruction shows them.

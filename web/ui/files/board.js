@@ -8,7 +8,7 @@ import { attempt, button, closer, el, made, named } from "../../host/elements.js
 import { readLine } from "../../formats/lines.js";
 import { refusing } from "./opening.js";
 import { readExported } from "./projectfile.js";
-import { openExported } from "./projects.js";
+import { openProject } from "./projects.js";
 import { Helper, Refusal } from "../../host/requests.js";
 import { differenceText, sameText } from "../source/runcomparison.js";
 import { smallPicture } from "../screen/screen.js";
@@ -46,7 +46,7 @@ async function showBoard(files) {
     await read(one, files[at].bytes);
     if (turn !== board.turn) return;
   }
-  showByLesson(board.all.some(({ exported }) => exported?.project?.lesson));
+  showByLesson(board.all.some(({ exported }) => exported?.project.lesson));
   board.model = board.all.find(({ name, exported }) => exported && /model|solution/i.test(name)) ?? null;
   // What else came with them does not wait for that.
   attempt(judgeAll);
@@ -67,7 +67,6 @@ function handIn(name) {
 async function read(one, bytes) {
   try {
     one.exported = await readExported(bytes);
-    if (!one.exported.project) throw new Refusal("it has a recording, and no project");
   } catch (error) {
     if (!(error instanceof Refusal)) throw error;
     one.exported = null;
@@ -99,8 +98,9 @@ function endBoard() {
 /** @param {HandIn} one
  * @param {number} turn */
 async function judge(one, turn) {
-  const { name, exported, cells } = one, { model, worker } = board, project = exported?.project;
-  if (!exported || !project || !worker) return;
+  const { name, exported, cells } = one, { model, worker } = board;
+  if (!exported || !worker) return;
+  const { project } = exported;
   const isModel = one === model, choose = button(isModel ? "It is the model" : "Use as the model", () => {
     board.model = isModel ? null : one;
     return judgeAll();
@@ -145,7 +145,7 @@ async function part(one, seconds, turn) {
   const { exported, cells } = one, { model, worker } = board, by = model?.exported;
   one.isParted = !by || !exported || by === exported;
   if (!by || !exported || one.isParted || !worker) return cells[4].replaceChildren();
-  const sources = [by, exported].map(({ project }) => project?.ran ?? project?.sources ?? []);
+  const sources = [by, exported].map(({ project }) => project.ran ?? project.sources);
   board.now = cells[4];
   const found = await worker.ask("handInParting", { model: by.recording, own: exported.recording, sources, seconds }).catch(refusalOf);
   if (turn !== board.turn || !found) return;
@@ -171,7 +171,7 @@ function partingText({ at, lines, where }, areSeveral) {
  * @param {HandIn} one
  * @param {number} turn */
 async function judgeLesson({ exported, cells }, turn) {
-  const project = exported?.project, lesson = board.model?.exported?.project?.lesson ?? project?.lesson, { worker } = board;
+  const project = exported?.project, lesson = board.model?.exported?.project.lesson ?? project?.lesson, { worker } = board;
   if (!project || !lesson || !worker) return cells[BY_LESSON].replaceChildren();
   const { file } = project, parts = project.ran ?? project.sources;
   let done = 0, first = "";
@@ -189,7 +189,7 @@ async function judgeLesson({ exported, cells }, turn) {
  * @param {import("./projectfile.js").Exported} exported */
 async function openFrom(name, exported) {
   el("board").close();
-  await refusing(name, () => openExported(name, exported));
+  await refusing(name, () => openProject(exported));
 }
 
 offer({ showBoard });

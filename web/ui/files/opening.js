@@ -1,18 +1,18 @@
 // @ts-check
 /* Opens recordings, sessions, memory images and examples in place of what is open, whose recording is kept. */
-import { app, branches, nameFile, NO_BRANCHES, setBranches, setFile, setImage, setWork } from "../../host/app.js";
+import { app, branches, nameFile, NO_BRANCHES, setBranches, setFile, setImage } from "../../host/app.js";
 import { beginShowing } from "./beginning.js";
-import { keepLeft, showBranches } from "../timeline/branches.js";
+import { showBranches } from "../timeline/branches.js";
 import { forgetBreaks } from "../code/breakpoints.js";
 import { closeCard } from "../screen/card.js";
-import { showClaim, showFalse, showOf } from "../code/statetab.js";
+import { showFalse } from "../code/differences.js";
+import { showClaim, showOf } from "../code/statetab.js";
 import { commands, offer } from "../../host/commands.js";
 import { forgetCounts } from "../code/counts.js";
 import { LONGEST_SOURCE } from "../source/desk.js";
 import { attempt, closeMenus, el, named, notice, set } from "../../host/elements.js";
 import { isSnake } from "../screen/game.js";
 import { setPins } from "../../host/pins.js";
-import { followWork, inTurn, isNoteUnsafe, keep, leave } from "../../host/autosave.js";
 import { names } from "../../host/names.js";
 import { isPage } from "./projectfile.js";
 import { examples } from "../../host/packed.js";
@@ -28,11 +28,10 @@ import { MEMORY_BYTES } from "../../formats/states.js";
 import { dropNames, editedText, isSource, isSymbols, openSource, openSymbols } from "../code/symbolfiles.js";
 import { grouped, plainName } from "../../formats/texts.js";
 import { drawLanes } from "../timeline/drawing.js";
-import { compareTrace, isTraceFile } from "../code/traces.js";
 import { verdicts } from "../screen/verdicts.js";
-import { Work } from "../../host/journal.js";
+import { isNoteUnsafe, openWork, Work } from "../../host/work.js";
 
-const LONGEST_READ = 118310057, LONGEST_FILE = 67108865, LATE_MS = 300;
+const LONGEST_READ = 118310057, LONGEST_FILE = 67108865;
 // What a text is called that may be a source.
 const IS_TEXT = /\.(?:asm|s|inc|mod|txt|c|h|oberon)$/i;
 // How often something was chosen to be opened.
@@ -47,26 +46,22 @@ export async function openChosen(chooser) {
   await openFiles(files);
 }
 
-/** Opens files that came together: a machine first, then the names for it, then the sources of these, then a trace. Of several machines the first one is
- * opened.
+/** Opens files that came together: a machine first, then the names for it, then the sources of these. Of several machines the first one is opened.
  * @param {File[]} files */
 export async function openFiles(files) {
-  const number = ++chosen, { generation } = app.work, areTraces = await Promise.all(files.map(isTraceFile));
-  const [trace] = files.filter((_, at) => areTraces[at]), all = await Promise.all(files.filter((_, at) => !areTraces[at]).map(readFile));
+  const number = ++chosen, all = await Promise.all(files.map(readFile));
   // What was chosen later counts, also if it was read sooner.
   if (number !== chosen) return;
   clearRefusal();
   const pages = all.filter(({ name, bytes }) => isPage(name, bytes)), read = all.filter((file) => !pages.includes(file));
   if (pages.length > 1) await commands.showBoard(pages);
-  else if (pages.length) await refusing(pages[0].name, () => commands.openPage(pages[0].name, pages[0].bytes));
+  else if (pages.length) await refusing(pages[0].name, () => commands.openPage(pages[0].bytes));
   const symbols = read.filter(({ name, bytes }) => isSymbols(name, bytes)), others = read.filter((file) => !symbols.includes(file));
   const sources = others.filter(({ name }) => isSourceName(name) || isSource(name) || (symbols.length && others.length > 1 && IS_TEXT.test(name))), machines = others.filter((file) => !sources.includes(file));
   for (const file of [...machines.slice(0, 1), ...symbols.slice(0, 1)]) await openBytes(file.name, file.bytes);
   await openSources(sources);
   await attempt(tieSources);
   const [first] = machines.length > 1 ? machines : symbols;
-  // A trace is of the machine that came with it, unless that was refused.
-  if (trace && number === chosen && (!machines.length || app.work.generation !== generation)) await compareTrace(trace);
   if (machines.length > 1 || symbols.length > 1) notice(`Opened the first of ${files.length} files: ${first.name}.`);
 }
 
@@ -138,7 +133,7 @@ function textOf(bytes) {
  * @param {Name} ask
  * @param {Requests[Name][0]} given */
 export async function replaced(name, ask, given) {
-  if (!(await mayLeave())) return null;
+  if (!mayLeave()) return null;
   const answer = /** @type {Opened} */ (await app.live.ask(ask, given));
   showOpened(answer, new Work(nameOf(name), answer));
   return answer;
@@ -147,27 +142,19 @@ export async function replaced(name, ask, given) {
 /** @param {string} name */
 const nameOf = (name) => name.replace(/\.[^.]*$/, "") || "live";
 
-/** Whether what is open may be left. If the browser cannot keep it, the user decides. */
-export async function mayLeave() {
-  const late = setTimeout(() => notice(`Waiting for the browser to keep the recording of ${app.work.name} ..`), LATE_MS);
-  await keep();
-  clearTimeout(late);
-  if (isNoteUnsafe() && !confirm(`The replay of ${app.work.name} is not over, so your notes in it are not kept. Discard them and open another machine?`)) return false;
-  const question = `This browser cannot keep the recording of ${app.work.name}. Discard it and open another machine?`;
-  return !isAnyUnkept() || confirm(question);
-}
+/** Whether what is open may be left: it is kept, but for notes in a replay that is not over, of which the user decides. */
+export const mayLeave = () => !isNoteUnsafe() || confirm(`The replay of ${app.work.name} is not over, so your notes in it are not kept. Discard them and open another machine?`);
 
-/** Whether the browser cannot keep what is open, or a branch of it. */
-export const isAnyUnkept = () => [app.work, ...branches.list].some(({ isUnkept }) => isUnkept);
-
-/** Opens a recording at its beginning, and checks it.
+/** Opens a recording at its beginning, and checks it unless that was done. Returns whether it is open.
  * @param {string} name
- * @param {Bytes} bytes */
-export async function openRecording(name, bytes) {
-  if (!(await replaced(name, "openRecording", { bytes, checkpoint: 0 }))) return;
+ * @param {Bytes} bytes
+ * @param {Verdicted | null} verdict */
+export async function openRecording(name, bytes, verdict = null) {
+  if (!(await replaced(name, "openRecording", { bytes, checkpoint: 0 }))) return false;
   nameFile(name, bytes);
   await attempt(previewLast);
-  await attempt(checkFile);
+  await attempt(() => checkFile(verdict));
+  return true;
 }
 
 /**
@@ -187,13 +174,14 @@ async function previewLast() {
 /** Whether the file that was opened was not run yet, and now is looked at. */
 const isAtStart = () => Boolean(app.latest && !app.latest.on && !nowCount() && !isPast());
 
-/** Checks the open file, and shows the checkpoint that its line is about. */
-async function checkFile() {
+/** Checks the open file, unless its verdict is known, and shows the checkpoint that its line is about.
+ * @param {Verdicted | null} verdict */
+async function checkFile(verdict) {
   const { file } = app;
   set("show-false", { hidden: true });
   await showClaim(0);
   if (!file || file !== app.file) return;
-  const answer = await verdicts.file.check(file.name, file.bytes);
+  const answer = verdict ? verdicts.file.take(file.name, verdict) : await verdicts.file.check(file.name, file.bytes);
   if (answer) await showVerdict(file, answer);
 }
 
@@ -261,12 +249,11 @@ const isNamedFor = (work, before) => work.name !== before.name && !isSourceName(
  * @param {Branches} others */
 function replaceWork(work, { left, begun }, others = NO_BRANCHES) {
   const before = app.work, dropped = branches.list.filter((one) => one !== work && !others.list.includes(one));
-  setWork(work);
+  openWork(work);
   setBranches(others);
-  for (const branch of dropped) inTurn(async () => branch.giveUp());
-  if (others.list.includes(before)) keepLeft(Object.assign(before, { end: left?.count ?? before.end }), left);
-  else leave(before, left);
-  attempt(() => followWork(work, begun));
+  for (const branch of dropped) branch.drop();
+  Object.assign(before, { end: left?.count ?? before.end }).leave(before.recordsLeft(left), others.list.includes(before));
+  attempt(() => work.follow(begun));
   return before;
 }
 
@@ -298,7 +285,7 @@ export function showOpened(opened, work, others) {
   el("claims").hidden = !claims;
   el("pad").hidden = !isSnake();
   beginGame();
-  for (const name of ["run", "step", "line-over", "line-out", "save-session", "save-recording", "save-screen", "find-before", "find-next", "writer-leds"]) set(name, { disabled: false });
+  for (const name of ["run", "step", "line-over", "line-out", "save-recording", "save-screen", "find-before", "find-next", "writer-leds"]) set(name, { disabled: false });
   if (claims) el("claim-number").max = `${checkpoints}`;
   else el("screen").focus({ preventScroll: true });
 }
@@ -307,7 +294,7 @@ export function showOpened(opened, work, others) {
  * @param {number} number */
 export async function runOnFrom(number) {
   const { file } = app, wrong = falseClaim()?.number ?? Infinity;
-  if (!file || !(await mayLeave())) return;
+  if (!file || !mayLeave()) return;
   const answer = await app.live.ask("openRecording", { bytes: file.bytes, checkpoint: number });
   replaceWork(new Work(nameOf(file.name), answer), answer);
   showBranches();

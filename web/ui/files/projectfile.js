@@ -1,6 +1,6 @@
 // @ts-check
-/* Reads a file that this page exported, or a report: both have a recording, and an exported one has its project beside it. The file is read as text, and only
- * the data of these two parts is taken: nothing of it is shown as HTML, and none of its scripts runs. */
+/* Reads a page that was exported, or that `galluspa report` made: it has a recording, and its project beside it. The file is read as text, and only the data of
+ * these two parts is taken: nothing of it is shown as HTML, and none of its scripts runs. */
 import { inflated } from "../../formats/inflating.js";
 import { Refusal } from "../../host/requests.js";
 import { readProject } from "../../formats/project.js";
@@ -10,22 +10,22 @@ import { Refused } from "../../formats/refused.js";
 const LONGEST_PROJECT = 1 << 26;
 const PARTS = { recording: /<script type="text\/plain" id="g-recording">([^<]*)<\/script>/g, project: /<script type="text\/plain" id="g-project">([^<]*)<\/script>/g };
 
-/** What a file has: its recording, and the project beside it, which a report has not.
- * @typedef {{ recording: Bytes, project: import("../../formats/project.js").Project | null }} Exported */
+/** What a file has: its recording, and the project beside it.
+ * @typedef {{ recording: Bytes, project: import("../../formats/project.js").Project }} Exported */
 
 /** Whether a file is a page, by its name or its first bytes.
  * @param {string} name
  * @param {Bytes} bytes */
 export const isPage = (name, bytes) => /\.html?$/i.test(name) || /^\s*<(?:!doctype html|html)/i.test(new TextDecoder("latin1").decode(bytes.subarray(0, 64)));
 
-/** Returns a part of a page, unpacked; or null if there is none.
+/** Returns a part of a page, unpacked.
  * @param {string} page
  * @param {keyof typeof PARTS} name
  * @param {number} most */
 async function partOf(page, name, most) {
   const found = [...page.matchAll(PARTS[name])];
   if (found.length > 1) throw new Refusal(`${found.length} ${name}s in this page: an exported page has one`);
-  if (!found.length) return null;
+  if (!found.length) throw new Refusal(`no ${name} in this page: Export makes pages with one, and so does galluspa report`);
   const bytes = await inflated(found[0][1], most).catch(() => {
     throw new Refusal(`the ${name} in this page is not compressed data`);
   });
@@ -33,8 +33,9 @@ async function partOf(page, name, most) {
   return bytes;
 }
 
-/** @param {Bytes} bytes */
-function projectOf(bytes) {
+/** Returns the project that bytes are.
+ * @param {Bytes} bytes */
+export function projectOf(bytes) {
   try {
     return readProject(new TextDecoder("utf-8", { fatal: true }).decode(bytes));
   } catch (error) {
@@ -43,17 +44,10 @@ function projectOf(bytes) {
   }
 }
 
-/** Reads a page. One without a recording is refused.
+/** Reads a page.
  * @param {Bytes} bytes
  * @returns {Promise<Exported>} */
 export async function readExported(bytes) {
-  const page = new TextDecoder("latin1").decode(bytes), recording = await partOf(page, "recording", LONGEST_RECORDING), project = await partOf(page, "project", LONGEST_PROJECT);
-  if (!recording) throw new Refusal("no recording in this page: Export makes pages with one, and so does Save a report");
-  return { recording, project: project && projectOf(project) };
+  const page = new TextDecoder("latin1").decode(bytes), recording = await partOf(page, "recording", LONGEST_RECORDING);
+  return { recording, project: projectOf(await partOf(page, "project", LONGEST_PROJECT)) };
 }
-
-/** Returns the project of this page, and its recording.
- * @param {Bytes} recording
- * @param {Bytes} project
- * @returns {[import("../../formats/project.js").Project, Bytes]} */
-export const readParts = (recording, project) => [projectOf(project), recording];

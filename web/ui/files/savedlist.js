@@ -1,64 +1,59 @@
 // @ts-check
-/* The list of what the browser keeps, as projects: each run in an item, beside it what came since that was written, and each source in an item. Other pages
- * may share the browser's storage with this one, so what is read is judged first. A lock says which page an item is open in. */
+/* The list of what the browser keeps and is not open here, as projects; and how one goes on with it. */
 import { app, branches, NO_BRANCHES } from "../../host/app.js";
 import { familyOf } from "../timeline/branches.js";
 import { sendBreaks, setBreaks, setWatches } from "../code/breakpoints.js";
 import { offer } from "../../host/commands.js";
-import { attempt, button, el, listButton, made, named, notice, paragraph, set, write } from "../../host/elements.js";
-import { inTurn, keep, keepRunSoon } from "../../host/autosave.js";
-import { dropItems, nameIn, readItem, relabel, sizeText, summaries } from "../../host/items.js";
+import { attempt, button, download, el, listButton, made, named, notice, paragraph, set, write } from "../../host/elements.js";
+import { items, newId, RUN } from "../../host/keeping.js";
 import { moveCursor, runTo, showMode } from "../timeline/cursormoves.js";
 import { mayLeave, showOpened } from "./opening.js";
 import { setPins } from "../../host/pins.js";
-import { headOf, nameOf, partsOf, projectsOf } from "../../host/projects.js";
+import { headOf, isSource, MOST_NAME, nameIn, nameOf, partsOf, projectsOf, sizeText, textOf } from "../../host/projects.js";
+import { dropItems, listed, readItem, relabel } from "../../host/records.js";
 import { Refusal } from "../../host/requests.js";
 import { smallPicture } from "../screen/screen.js";
 import { isPast, nowCount } from "../../host/shown.js";
 import { sentIn } from "../../formats/recordings.js";
 import { resumeProgram } from "../source/source.js";
-import { bringBackSources, openKept, openSourceId, renameProject, sourceSummaries, takeUnwritten } from "../source/sourceautosave.js";
-import { deleteStorage, withKept } from "../../host/storage.js";
+import { openKept, openSource, renameProject } from "../source/sourceautosave.js";
+import { deleteStorage, withStore } from "../../host/storage.js";
 import { resumeNames } from "../code/symbolfiles.js";
 import { many, messageOf, plainName } from "../../formats/texts.js";
 import { offerToContinue } from "../screen/welcome.js";
-import { Work } from "../../host/journal.js";
+import { keepRun, keepRunSoon, Work } from "../../host/work.js";
 import { locked, oneAtATime } from "../../host/locks.js";
-
-const MOST_NAME = 80;
+import { textOf as jsonOf } from "../../host/writeahead.js";
 
 // The list
 
 /** @typedef {import("../../host/projects.js").Project} Project */
-/** What was deleted: its records, and sources that were not written, which bring it back.
- * @typedef {{ records: any[], unwritten: import("../source/sourceautosave.js").KeptSource[], name: string, text: string }} Deleted */
+/** What was deleted: its records, and items that were not written, which bring it back.
+ * @typedef {{ records: any[], unwritten: import("../../host/keeping.js").Item<any>[], name: string, text: string }} Deleted */
 
 /** What was deleted since the page was opened, in that order.
  * @type {Set<Deleted>} */
 const deleted = new Set();
 let listing = 0;
 
-/** Reads what is kept and not open here; and why it cannot be read, if so.
- * @returns {Promise<{ found: Summary[], error: Error | null }>} */
+/** Reads what is kept and not open here; and why it cannot be read, if so. */
 async function readKept() {
-  /** @type {{ runs: Summary[], sources: [string, KeptSourceAbout | undefined][], error: Error | null }} */
-  const read = await summaries().then((all) => ({ ...all, error: null }), (error) => ({ runs: [], sources: [], error }));
-  const here = [app.work, ...branches.list].map(({ id }) => id);
-  return { found: [...(await sourceSummaries(read.sources)), ...read.runs.filter(({ id }) => !here.includes(id))], error: read.error };
+  const read = await listed(), here = new Set([app.work, openSource(), ...branches.list].map((item) => item?.id));
+  return { ...read, heads: read.heads.filter(({ of }) => !here.has(of)) };
 }
 
 /** Shows what is kept and not open here, as projects, and what was deleted since the page was opened. Of two at a time the later one counts. */
 export async function showKept() {
-  const turn = ++listing, { found, error } = await readKept();
+  const turn = ++listing, { heads, odd, error } = await readKept();
   if (turn !== listing) return;
-  const projects = projectsOf(found), items = [...(error ? [unreadable(error)] : []), ...projects.map(projectItem)];
-  set("forget-all", { hidden: !found.length });
-  offerToContinue(projects.filter((project) => headOf(project).isReadable), goOnWith);
-  write("kept-number", `${items.length || "none"}`);
+  const projects = projectsOf(heads), rows = [...(error ? [unreadable(error)] : []), ...(odd.length ? [oddRow(odd)] : []), ...projects.map(projectRow)];
+  set("forget-all", { hidden: !heads.length });
+  offerToContinue(projects, goOnWith);
+  write("kept-number", `${rows.length || "none"}`);
   showOpen();
-  set("kept-none", { hidden: items.length + deleted.size > 0 });
-  el("kept").hidden = !items.length && !deleted.size && !app.work.generation;
-  el("kept-list").replaceChildren(...[...[...deleted].map(deletedItem), ...items].flat());
+  set("kept-none", { hidden: rows.length + deleted.size > 0 });
+  el("kept").hidden = !rows.length && !deleted.size && !app.work.generation;
+  el("kept-list").replaceChildren(...[...[...deleted].map(deletedRow), ...rows].flat());
 }
 
 /** Shows what the list says of the project that is open. */
@@ -75,76 +70,76 @@ export async function renameOpen({ target }) {
   const name = plainName(target.value.trim()).slice(0, MOST_NAME), { work, latest } = app;
   if (!name || !latest) return showOpen();
   for (const one of [work, ...branches.list]) one.name = name;
-  for (const { id } of branches.list) if (id !== null) await relabel(id, { name });
-  if (work.ran?.id === openSourceId()) renameProject(name);
+  for (const { id, left } of branches.list) await (left ? void (left.head.name = name) : relabel(id, { name }));
+  if (work.ran?.id === openSource()?.id) renameProject(name);
   showMode(latest);
-  await keepAnew();
+  await keepRun();
 }
 
 /** Has the run that is open listed by itself, or with the others of its source. */
 export async function pinOpen() {
   app.work.isPinned = !app.work.isPinned;
   showOpen();
-  await keepAnew();
-}
-
-/** Keeps the run that is open, though nothing came for it, after what is being kept. */
-async function keepAnew() {
-  const { work } = app;
-  inTurn(async () => (work.kept = ""));
-  await keep();
+  await keepRun();
 }
 
 /** Returns a project in the list: its last run, or its source if it has none, and below that its other runs.
  * @param {Project} project */
-function projectItem(project) {
-  const head = headOf(project), { runs, source } = project, [, ...others] = runs;
-  const parts = [...itemOf(head, nameOf(project), [...pinning(head, runs.length > 1 || Boolean(source)), listButton("Delete", () => remove(project))])];
+function projectRow(project) {
+  const head = headOf(project), { runs, source } = project, [, ...others] = runs, parts = rowOf(head, nameOf(project), runs.length > 1 || source !== null, () => remove(project));
   if (!others.length) return parts;
   const more = made("details", "", "runs"), size = partsOf(project).reduce((sum, one) => sum + one.size, 0), place = made("div", "", "kept");
   more.append(made("summary", `${many(others.length, "older run")}, ${sizeText(size)} in all`), place);
-  place.append(...others.flatMap((run) => itemOf(run, run.name, [...pinning(run, true), listButton("Delete", () => remove({ ...project, source: null, runs: [run] }))])));
+  place.append(...others.flatMap((run) => rowOf(run, nameIn(run), true, () => remove({ ...project, source: null, runs: [run] }))));
   return [...parts, more];
 }
 
 /** Returns an item of the list: what it is, and its buttons.
- * @param {Summary} item
+ * @param {Head} head
  * @param {string} name
- * @param {Element[]} buttons */
-function itemOf(item, name, buttons) {
-  const { isReadable, isSource, isPinned, text, shades } = item, what = itemText(isSource ? "Source " : isPinned ? "Pinned: " : "", isSource ? item.name : name, text);
-  if (shades) what.prepend(smallPicture(shades));
-  return [what, ...(isReadable ? [listButton(isSource ? "Open" : "Resume", () => goOnWith(item))] : []), ...buttons];
+ * @param {boolean} isOneOfSeveral
+ * @param {() => Promise<void>} removed */
+function rowOf(head, name, isOneOfSeveral, removed) {
+  const isHereOnly = [...items].some(({ id, isRefused }) => id === head.of && isRefused), text = textOf(head, isHereOnly), press = listButton("Delete", removed);
+  if (isSource(head)) return [rowText("Source ", nameIn({ ...head, name: head.desk.file }), text), listButton("Open", () => goOnWith(head)), press];
+  const what = rowText(head.pinned ? "Pinned: " : "", name, text);
+  if (head.shades) what.prepend(smallPicture(head.shades));
+  return [what, listButton("Resume", () => goOnWith(head)), ...(head.pinned || isOneOfSeveral ? [pinning(head)] : []), press];
 }
 
 /** Returns the button by which a run is listed by itself, or again with the others of its project.
- * @param {Summary} run
- * @param {boolean} isOneOfSeveral */
-function pinning({ id, isSource, isReadable, isPinned = false }, isOneOfSeveral) {
-  if (isSource || !isReadable || !(isPinned || isOneOfSeveral)) return [];
-  const press = listButton(isPinned ? "Unpin" : "Pin", async () => {
-    await withLocks([id], () => relabel(id, { pinned: !isPinned }));
+ * @param {RunHead} head */
+function pinning({ of: id, pinned = false }) {
+  const press = listButton(pinned ? "Unpin" : "Pin", async () => {
+    await withLocks([id], () => relabel(id, { pinned: !pinned }));
     await showKept();
   });
-  press.title = isPinned ? "List it with the other runs of its source" : "List this run by itself";
-  return [press];
+  press.title = pinned ? "List it with the other runs of its source" : "List this run by itself";
+  return press;
 }
 
 /** Goes on with a recording or a source that is kept.
- * @param {Summary} item */
-export const goOnWith = ({ id, isSource }) => (isSource ? openKept(id) : resume(id));
+ * @param {Head} head */
+export const goOnWith = (head) => (isSource(head) ? openKept(head.of) : resume(head.of));
 
 /** @param {Deleted} item */
-const deletedItem = (item) => [itemText("Deleted: ", item.name, item.text), listButton("Undo", () => bringBack(item))];
+const deletedRow = (item) => [rowText("Deleted: ", item.name, item.text), listButton("Undo", () => bringBack(item))];
 
 /** Returns the text of an item: a word before its name, and what it is.
  * @param {string} before
  * @param {string} name
  * @param {string} text */
-function itemText(before, name, text) {
+function rowText(before, name, text) {
   const what = paragraph(before);
   what.append(named(name), text);
   return what;
+}
+
+/** Returns the row of what is of another shape: it is saved as one file, or deleted.
+ * @param {IDBValidKey[]} keys */
+function oddRow(keys) {
+  const save = async () => download("kept.json", new Blob([jsonOf(await withStore("readonly", (store) => keys.map((key) => store.get(key))))]), "application/json");
+  return [paragraph(`${many(keys.length, "record")} cannot be read: this page did not write ${keys.length > 1 ? "them" : "it"}.`), button("Save as a file", save), listButton("Delete", () => dropItems(keys).then(showKept))];
 }
 
 /** @param {Error} error */
@@ -152,6 +147,7 @@ function unreadable(error) {
   const deleteAll = async () => {
     if (!confirm("Delete everything this page has stored? That cannot be undone.")) return;
     await deleteStorage();
+    for (const item of items) Object.assign(item, { head: null, isStored: false });
     await showKept();
   };
   return [paragraph(`What this browser keeps cannot be read: ${messageOf(error)}`), button("Delete all of it", deleteAll)];
@@ -160,19 +156,16 @@ function unreadable(error) {
 // Resuming
 
 /** Resumes what is kept, with its branches, the source that it was run from, its breakpoints, its watches, its notes and its cursor.
- * @param {number} id */
-export const resume = (id) => oneAtATime(id, () => resumeNow(id));
-
-/** @param {number} id */
-async function resumeNow(id) {
-  if (!(await mayLeave())) return;
+ * @param {string} id */
+export const resume = (id) => oneAtATime(id, async () => {
+  if (!mayLeave()) return;
   const work = new Work(""), { ran } = await resumed(work, id, async ({ family }) => (family === undefined ? NO_BRANCHES : familyOf(family, id)));
   try {
     if (ran) await resumeProgram(ran);
   } finally {
     await lookAgain(work);
   }
-}
+});
 
 // Whether what was kept is played back up to where it was, in which the machine stops at no breakpoint; and the work whose count is looked at after that.
 const playback = { isOn: false, waiting: /** @type {Work | null} */ (null) };
@@ -224,32 +217,33 @@ export async function endPlayback() {
 /** Resumes an item. If another page has it open, this is a copy. `branchesOf` returns the branches beside it. Returns what was kept
  * beside the machine.
  * @param {Work} work
- * @param {number} id
- * @param {(kept: Labels) => Branches | Promise<Branches>} branchesOf
- * @returns {Promise<Labels>} */
+ * @param {string} id
+ * @param {(head: RunHead) => Branches | Promise<Branches>} branchesOf
+ * @returns {Promise<Kept>} */
 export async function resumed(work, id, branchesOf) {
-  // A branch that is in this page only has no item yet.
-  const isOnlyHere = work.left !== null && work.id === null, isBranch = branches.list.includes(work), isFree = isOnlyHere || work.isLocked || (await work.take(id));
+  const isBranch = branches.list.includes(work), opened = work.head ? null : work.opened;
+  let isFree = true;
   try {
-    const { kept, about } = work.left ? { kept: /** @type {Kept} */ ({ ...work.labels, ...work.left }), about: null } : await readItem(id);
-    const others = await branchesOf(kept), answer = await app.live.ask("resume", { kept, isKeptOn: isFree });
-    const { family, number = 1, parent = 0, until = kept.count, by = work.by, ran, pinned: isPinned = false } = kept, { generation, fork, program } = answer;
-    Object.assign(work, { name: nameIn(kept), generation, fork, program, family, number, parent, end: until, by, ran, isPinned, about, journals: [], left: null, unshown: { symbols: kept.symbols } });
+    const read = opened ? work.recordsOf(opened) : await readItem(id, async () => (isFree = await work.take(id)));
+    const { head, body, isWritten } = { isWritten: false, ...read }, isOwn = isFree && isWritten, { family, number = 1, parent = 0, until: end, pinned: isPinned = false, desk } = head, { symbols, live } = body;
+    // A copy's source is another one than that which it was a copy of: the head says which.
+    const ran = body.ran && { ...body.ran, id: desk.source || body.ran.id };
+    const others = await branchesOf(head), { generation, fork, program, ...answer } = await app.live.ask("resume", { kept: { ...body, family }, isKeptOn: isFree });
+    Object.assign(work, { name: nameIn(head), generation, fork, program, family, number, parent, end, ran, isPinned, by: body.by, kept: "", base: null, left: null, opened: null, unshown: { symbols } });
     // Without its state a machine is at its last checkpoint, and what it sent later comes again.
-    Object.assign(work, { sent: kept.live ? kept.sent : kept.first ? "" : sentIn(kept.recording), isStored: isFree && !isOnlyHere && until === kept.count && Boolean(kept.live), kept: "" });
-    if (!isFree) Object.assign(work, { id: null, by: null, about: null });
-    showOpened(answer, work, others);
+    Object.assign(work, { sent: live ? body.sent : sentIn(body.recording), head: isOwn ? head : null, isStored: isOwn && end === body.count && Boolean(live), news: work.news + Number(isFree && !isWritten) });
+    if (!isFree) work.id = newId(RUN);
+    showOpened({ generation, fork, program, ...answer }, work, others);
     // What is looked at in a branch that one returns to is what was looked at in the one before.
-    if (kept.desk && !isBranch) restore(kept.desk);
-    attempt(() => resumeNames(kept.symbols)).then(() => delete work.unshown.symbols);
+    if (!isBranch) restore(desk);
+    attempt(() => resumeNames(symbols)).then(() => delete work.unshown.symbols);
     // It is what was worked on last from now on.
     if (isFree) keepRunSoon();
-    if (kept.first) notice("An earlier page kept this session without its recording: Run plays it back and records it.");
-    else if (app.latest?.isReplay) await playBack(until);
+    if (app.latest?.isReplay) await playBack(end);
     if (!isFree) notice("This recording is open in another page: what you do here is kept as a copy.");
-    return kept;
+    return body;
   } catch (error) {
-    work.giveUp();
+    if (!isBranch && !work.left) work.giveUp();
     throw error;
   }
 }
@@ -257,49 +251,45 @@ export async function resumed(work, id, branchesOf) {
 // Deleting
 
 /** Does something with items that no other page has open; else it is refused. What is asked for twice is done once.
- * @param {any[]} ids
+ * @param {string[]} ids
  * @param {() => Promise<unknown>} task */
-const withLocks = (ids, task) => oneAtATime(`locks of ${ids.join()}`, () => withLocksNow(ids, task));
-
-/**
- * @param {any[]} ids
- * @param {() => Promise<unknown>} task
- */
-async function withLocksNow(ids, task) {
-  const locks = await Promise.all(ids.map(locked));
+const withLocks = (ids, task) => oneAtATime(`locks of ${ids.join()}`, async () => {
+  // What this page left and could not write has its lock still.
+  const locks = await Promise.all(ids.filter((id) => ![...items].some((item) => item.id === id && item.release)).map(locked));
   try {
     if (locks.includes(null)) throw new Refusal("This project is open in another page, so it cannot be changed or deleted here.");
     await task();
   } finally {
-    for (const lock of locks) lock?.release();
+    for (const release of locks) release?.();
   }
-}
+});
 
 /** Deletes a project, or some of its parts.
  * @param {Project} project */
 async function remove(project) {
-  await withLocks(partsOf(project).map(({ id }) => id), () => deleteParts(project));
+  await withLocks(partsOf(project).map(({ of }) => of), () => deleteParts(project));
   await showKept();
 }
 
 /** Deletes all that is kept and not open here, which may be more than the list shows yet. Each can be brought back, as one that is deleted alone. */
 export async function forgetAll() {
   let areLeft = false;
-  for (const project of projectsOf((await readKept()).found)) {
+  for (const project of projectsOf((await readKept()).heads)) {
     const leave = (/** @type {unknown} */ error) => {
       if (!(error instanceof Refusal)) throw error;
       areLeft = true;
     };
-    await withLocks(partsOf(project).map(({ id }) => id), () => deleteParts(project)).catch(leave);
+    await withLocks(partsOf(project).map(({ of }) => of), () => deleteParts(project)).catch(leave);
   }
   await showKept();
   if (areLeft) notice("What is open in another page is not deleted.");
 }
 
-/** Deletes a project at once. Sources that only this page has are deleted though the browser denies its storage.
+/** Deletes a project at once. What only this page has is deleted though the browser denies its storage.
  * @param {Project} project */
 async function deleteParts(project) {
-  const ids = partsOf(project).map(({ id }) => id), unwritten = takeUnwritten(ids), { text } = headOf(project);
+  const ids = partsOf(project).map(({ of }) => of), unwritten = [...items].filter(({ id, left }) => left && ids.includes(id)), text = textOf(headOf(project));
+  for (const item of unwritten) items.delete(item);
   const records = await dropItems(ids).catch((error) => {
     if (!unwritten.length) throw error;
     return [];
@@ -311,8 +301,8 @@ async function deleteParts(project) {
  * @param {Deleted} item */
 async function bringBack(item) {
   const { records, unwritten } = item;
-  if (records.length) await withKept("readwrite", (store) => records.map((record) => store.put(record))[0]);
-  await bringBackSources(unwritten);
+  if (records.length) await withStore("readwrite", (store) => records.map((record) => store.put(record)));
+  for (const one of unwritten) one.leave(one.left);
   deleted.delete(item);
   await showKept();
 }

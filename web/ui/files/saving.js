@@ -1,5 +1,5 @@
 // @ts-check
-/* Saves the session or the recording that was made so far. */
+/* Saves the recording that was made so far. */
 import { app, savedName } from "../../host/app.js";
 import { download, notice, writeWhole } from "../../host/elements.js";
 import { cursor, isAhead, isPast, shownCount } from "../../host/shown.js";
@@ -8,32 +8,18 @@ import { grouped } from "../../formats/texts.js";
 import { noteChecked } from "../timeline/timeline.js";
 import { verdicts } from "../screen/verdicts.js";
 
-/** Pauses the machine, and returns its session or its recording.
- * @param {"session" | "recording"} ask */
-async function paused(ask) {
-  await app.live.ask("setRun", { on: false });
-  return app.live.ask(ask);
-}
-
-export async function saveSession() {
-  notice();
-  const made = await paused("session");
-  download(savedName("json"), made.bytes, "application/json");
-  notice(cutText("session", made));
-}
-
-/** Says where what was saved ends, if that is before the machine's count; else nothing.
- * @param {string} what
+/** Says where a recording that was saved ends, if that is before the machine's count; else nothing.
  * @param {Made} made */
-function cutText(what, { isWhole, count, full = "the recording has reached its limit of checkpoints" }) {
-  return isWhole ? "" : `The ${what} ends with its checkpoint at ${grouped(count)}: ${full}.`;
+function cutText({ isWhole, count, full = "the recording has reached its limit of checkpoints" }) {
+  return isWhole ? "" : `The recording ends with its checkpoint at ${grouped(count)}: ${full}.`;
 }
 
-/** Saves the recording, and checks it to show its verdict line. In the past it is all of it, which the page says. */
+/** Pauses the machine, saves its recording, and checks that to show its verdict line. In the past it is all of it, which the page says. */
 export async function saveRecording() {
   notice();
-  const made = await paused("recording"), isMore = isPast() && !isAhead();
-  await saved(made, [isMore ? `This is all of the recording, up to ${grouped(made.count)}. "Save up to the cursor" ends it at ${grouped(shownCount())}.` : "", cutText("recording", made)]);
+  await app.live.ask("setRun", { on: false });
+  const made = await app.live.ask("recording"), isMore = isPast() && !isAhead();
+  await saved(made, [isMore ? `This is all of the recording, up to ${grouped(made.count)}. "Save up to the cursor" ends it at ${grouped(shownCount())}.` : "", cutText(made)]);
 }
 
 /** Saves the recording up to the count that is looked at. */

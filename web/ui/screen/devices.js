@@ -2,7 +2,7 @@
 /* The devices that the user works with: keys and composed text, the mouse, the switches and the serial line. What cannot be sent
  * stays where it is, or the page says so. */
 import { app, send } from "../../host/app.js";
-import { type } from "../../host/autosave.js";
+import { type } from "../../host/work.js";
 import { commands } from "../../host/commands.js";
 import { attempt, el, notice, on, set, write } from "../../host/elements.js";
 import { ARROWS, isSnake } from "./game.js";

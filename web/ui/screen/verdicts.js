@@ -92,10 +92,10 @@ class Verdict {
   /** Shows a line that one call of the check gave.
    * @param {string} name
    * @param {Verdicted} verdicted */
-  take(name, { line, status }) {
+  take(name, verdicted) {
     this.clear();
     this.part("judged").replaceChildren(`${this.what} `, named(name));
-    this.show(line, status, OF_ONE_CALL);
+    return this.judged(verdicted);
   }
 
   /**

@@ -8,6 +8,7 @@ import { placeText } from "../../host/names.js";
 import { isAhead, nowCount, perSecond, shownCount, shownState } from "../../host/shown.js";
 import { moveCursor } from "../timeline/cursormoves.js";
 import { markLine } from "../timeline/answers.js";
+import { listLanes } from "../timeline/cursor.js";
 import { drawLanes } from "../timeline/drawing.js";
 import { AT, field, WORDS } from "../../formats/states.js";
 import { grouped } from "../../formats/texts.js";
@@ -79,6 +80,7 @@ function drawTimes() {
   const { executed = null, title = "" } = times ?? {};
   markLine(executed && { title, executed, what: (execution) => [...execution.reads, ...execution.writes].map(([name, text]) => `${name} ${text}`.trim()).join(", ") });
   drawLanes();
+  listLanes();
   set("times", { hidden: !times?.isKept });
   if (times?.isKept) drawTable(times);
 }

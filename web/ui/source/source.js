@@ -1,6 +1,6 @@
 // @ts-check
 /* The tab with a source: it is assembled as one types, run, and run again with the inputs of the run before. */
-import { app, savedName } from "../../host/app.js";
+import { app } from "../../host/app.js";
 import { setBreaks, toggleBreak } from "../code/breakpoints.js";
 import { commands, offer } from "../../host/commands.js";
 import {
@@ -10,7 +10,7 @@ import { plainText } from "./editor.js";
 import { attempt, button, download, el, made, named, notice, on, paragraph, set, write } from "../../host/elements.js";
 import { forgetExplained } from "./explaining.js";
 import { listenToHelp, offerSoon } from "./helping.js";
-import { keepRunSoon } from "../../host/autosave.js";
+import { keepRunSoon } from "../../host/work.js";
 import { oneAtATime } from "../../host/locks.js";
 import { lineOf, names, setNames, setSource } from "../../host/names.js";
 import { compareRuns, forgetOther } from "./runcomparison.js";
@@ -24,7 +24,7 @@ import { readSymbols } from "../../formats/symbolreader.js";
 import { showTab } from "../screen/tabs.js";
 import { grouped, many, plainName } from "../../formats/texts.js";
 
-const ASSEMBLE_MS = 300, SESSION_SECONDS = 20, EFFECTS_BEFORE = 4096, MOST_FILES = 5;
+const ASSEMBLE_MS = 300, EFFECTS_BEFORE = 4096, MOST_FILES = 5;
 // Where the machine was when its line was put in sight last: who goes to another line or source after that stays there.
 let followed = "";
 /** Where the caret was as the text field was left. A screen that gets the focus drops the browser's selection.
@@ -273,24 +273,6 @@ export async function saveSource() {
   download(desk.file, `${sourceEditor().text.replace(/\n$/, "")}\n`, "text/plain");
 }
 
-/** Saves the session of the source with its checkpoints, as `galluspa assemble` writes it. */
-export async function saveSourceSession() {
-  notice();
-  const made = await assembler().ask("sessionOf", { source: sourceEditor().text, parts: sourcesNow(), seconds: SESSION_SECONDS });
-  if (!made) return;
-  if (made.session === null) return showMade({ ...made, program: null }), notice(`Line ${made.problems[0].line}: ${made.problems[0].text}`);
-  download(desk.file.replace(/\.asm$/i, "") + ".json", made.session, "application/json");
-  if (made.notes.length) notice(made.notes.map(({ line, text }) => `Line ${line}: ${text}.`).join(" "));
-}
-
-/** Saves the symbol file of the source. If the machine runs its program, it has the name of the recording that is saved, by which the tools find it. */
-export async function saveSymbols() {
-  notice();
-  const found = await programToRun();
-  await findProgram();
-  if (found) download(runningProgram() ? savedName("sym") : desk.file.replace(/\.asm$/i, "") + ".sym", found.program.symbols, "text/plain");
-}
-
 // Breakpoints, the current line, and what lines did
 
 /** Sets a breakpoint in a line, or takes it away. Without a program it waits for one.
@@ -358,7 +340,7 @@ function currentPlace() {
 
 /** Asks what the instructions before the count that is looked at did, and shows it. */
 async function lookAtEffects() {
-  const count = shownCount(), { generation } = app.work, done = await app.past.effects(count, EFFECTS_BEFORE);
+  const count = shownCount(), { generation } = app.work, done = await app.past.ask("effects", { at: count, before: EFFECTS_BEFORE });
   if (!done || count !== shownCount() || app.latest?.on || generation !== app.work.generation) return;
   effects = { count, of: new Map(done) };
   editor.showBeside();
@@ -385,8 +367,6 @@ export function listenToSource() {
   on("source-again", "click", runAgain);
   on("source-save", "click", saveSource);
   on("source-part", "change", ({ target }) => showPart(target.value));
-  on("source-session", "click", saveSourceSession);
-  on("source-symbols", "click", saveSymbols);
   on("write", "click", writeProgram);
   listenToHelp();
   el("desk").addEventListener("keydown", leaveScreen, { capture: true });

@@ -19,7 +19,7 @@ let stepping = 0, isSaid = false;
 export const isStepping = () => stepping > 0;
 
 /** Ends that. */
-export const stopStepping = () => app.past.stopCalls(PLACE);
+export const stopStepping = () => app.past.ask("stopCalls", { place: PLACE });
 
 /** Says how far the calls are followed.
  * @param {NonNullable<PastNews["followed"]>} news */

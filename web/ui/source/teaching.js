@@ -1,24 +1,23 @@
 // @ts-check
-/* Where somebody writes a lesson for the source that is open: its steps, each with its task, what is seen, and what it claims at a count. It is kept with the
- * source, and exported with its project. */
+/* Where somebody writes a lesson for the source that is open: its steps, each with its task, what is seen, and what it claims, which is what the page shows as
+ * that is claimed. It is kept with the source, and exported with its project. */
 import { commands } from "../../host/commands.js";
 import { desk, setDesk } from "./desk.js";
 import { button, closeMenus, closer, el, made, notice, paragraph, set } from "../../host/elements.js";
-import { isClaim } from "../../formats/project.js";
 import { Refusal } from "../../host/requests.js";
 import { isPast, shownCount, shownState } from "../../host/shown.js";
 import { keepSourceSoon } from "./sourceautosave.js";
 import { AT, field } from "../../formats/states.js";
-import { plainName } from "../../formats/texts.js";
+import { grouped, plainName } from "../../formats/texts.js";
 
-/** @typedef {{ task: string, see: string, claim: string }} Draft */
-const EMPTY = { task: "", see: "", claim: "" };
+/** @typedef {{ task: string, see: string, claim: Wanted | null }} Draft */
+const EMPTY = { task: "", see: "", claim: null };
 
 /** Shows the form in which a lesson is written: with the steps of the one that is open, or with an empty step. */
 export async function writeLesson() {
   closeMenus();
-  const { title, steps } = desk.lesson ?? { title: "", steps: [] }, drafts = steps.map(({ task, see, claim }) => ({ task, see, claim: JSON.stringify(claim) }));
-  showForm(title, drafts.length ? drafts : [EMPTY]);
+  const { title, steps } = desk.lesson ?? { title: "", steps: [] };
+  showForm(title, steps.length ? steps : [EMPTY]);
 }
 
 /** @param {string} title
@@ -37,14 +36,25 @@ function showForm(title, drafts) {
  * @param {Draft} draft
  * @param {number} at */
 function stepForm({ task, see, claim }, at) {
-  const [first, second, third] = [["task", task], ["what is seen once it is done", see], ['claim, as {"at": 1000, "LEDs": 5}', claim]].map(([placeholder, value]) =>
+  const [first, second] = [["task", task], ["what is seen once it is done", see]].map(([placeholder, value]) =>
     Object.assign(made("textarea", "", "wide"), { value, placeholder, rows: 2, ariaLabel: `Step ${at + 1}: ${placeholder}` }));
-  const here = button("Claim what is shown", () => void (third.value = JSON.stringify(claimHere())));
-  return { parts: [paragraph(`Step ${at + 1}`, "hint"), first, second, third, here], read: () => ({ task: first.value, see: second.value, claim: third.value }) };
+  const said = paragraph(claimText(claim), "hint"), here = button("Claim what is shown", () => write((claim = claimHere())));
+  const write = (/** @type {Wanted} */ it) => void (said.textContent = claimText(it));
+  return { parts: [paragraph(`Step ${at + 1}`, "hint"), first, second, here, said], read: () => ({ task: first.value, see: second.value, claim }) };
 }
 
-/** Returns a claim of what is seen from outside at the count that is looked at: the LEDs, and now what was sent. */
+/** Says what a step claims.
+ * @param {Wanted | null} claim */
+function claimText(claim) {
+  if (!claim) return "It claims nothing yet: go to a count, and claim what is shown there.";
+  const { at, ...parts } = claim;
+  return `At count ${grouped(at)}: ${JSON.stringify(parts).slice(1, -1)}`;
+}
+
+/** Returns a claim of what is seen from outside at the count that is looked at: the LEDs, and now what was sent.
+ * @returns {Wanted} */
 function claimHere() {
+  if (!shownCount()) throw new Refusal("A step claims what is shown at a count above 0.");
   const sent = isPast() ? "" : el("out").textContent;
   return { at: shownCount(), LEDs: field(shownState(), AT.LEDs), ...(sent ? { sent } : {}) };
 }
@@ -55,23 +65,11 @@ function claimHere() {
 function take(title, drafts) {
   notice();
   if (!title.trim()) throw new Refusal("A lesson needs a title.");
-  const steps = drafts.map(({ task, see, claim }, at) => ({ task: task.trim(), see: see.trim(), claim: claimOf(claim, at + 1) }));
+  const steps = drafts.map(({ task, see, claim }, at) => {
+    if (!claim) throw new Refusal(`Step ${at + 1} claims nothing: press "Claim what is shown".`);
+    return { task: task.trim(), see: see.trim(), claim };
+  });
   setDesk({ lesson: { title: plainName(title.trim()), steps }, isEdited: true });
   keepSourceSoon();
   if (desk.lesson) commands.showLesson(desk.lesson);
-}
-
-/** @param {string} text
- * @param {number} number
- * @returns {Wanted} */
-function claimOf(text, number) {
-  /** @type {any} */
-  let claim = null;
-  try {
-    claim = JSON.parse(text);
-  } catch {
-    throw new Refusal(`Step ${number}: its claim is not JSON, as {"at": 1000, "LEDs": 5} is.`);
-  }
-  if (!isClaim(claim)) throw new Refusal(`Step ${number}: a claim has the count "at" above 0, and numbers for parts of the state, as in {"at": 1000, "R0": 7, "sent": "abc", "memory": {"4096": 1}}.`);
-  return claim;
 }

@@ -3,7 +3,6 @@
 import { app } from "../../host/app.js";
 import { answerLists } from "./answers.js";
 import { pins } from "../../host/pins.js";
-import { bracketText } from "./bracket.js";
 import { callsList } from "./callslane.js";
 import { el, made, set, write } from "../../host/elements.js";
 import { hitMarks, moreHits } from "./hits.js";
@@ -69,8 +68,8 @@ export function listLanes() {
     hits: [...latest(hitMarks()).map(([count, , what]) => `${what} at ${grouped(count)}`), ...moreHits()],
     keyframes: [`kept up to ${grouped(nowCount())}`],
   };
-  const bracket = bracketText(), ofTrace = bracket ? [laneList("trace", [bracket])] : [], answers = answerLists().map(([name, items]) => laneList(name, items));
-  el("lists").replaceChildren(...LANES.filter((lane) => lane !== "notes" || pins.size).map((lane) => laneList(lane, lists[lane])), ...ofTrace, ...answers);
+  const answers = answerLists().map(([name, items]) => laneList(name, items));
+  el("lists").replaceChildren(...LANES.filter((lane) => lane !== "notes" || pins.size).map((lane) => laneList(lane, lists[lane])), ...answers);
 }
 
 /**

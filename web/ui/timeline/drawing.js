@@ -2,7 +2,6 @@
 /* Draws the lanes of the timeline. */
 import { drawAnswers } from "./answers.js";
 import { app, branches } from "../../host/app.js";
-import { drawBracket } from "./bracket.js";
 import { callRows, drawCalls, hasCalls } from "./callslane.js";
 import { LINES } from "../../formats/dots.js";
 import { el, isNarrow, made } from "../../host/elements.js";
@@ -10,7 +9,7 @@ import { hitMarks } from "./hits.js";
 import { pins } from "../../host/pins.js";
 import { claimMarks, LANES, lanes, takeLanes, unknownParts } from "./lanes.js";
 import { isPast, nowCount, perSecond } from "../../host/shown.js";
-import { columnOf, columns, inSpan, selectedSpan, tickStep, timeline } from "./span.js";
+import { columnOf, columns, inSpan, tickStep, timeline } from "./span.js";
 import { grouped } from "../../formats/texts.js";
 
 // The least number of lanes that have room, so the screen does not change its size for each one.
@@ -45,9 +44,7 @@ export function drawLanes() {
   /** @type {{ [lane: string]: (place: Place) => void }} */
   const drawings = { checkpoints: drawClaims, keys: drawKeys, mouse: drawMouse, serial: drawSerial, screen: drawScreen, calls: (place) => drawCalls(place, laneRows("calls"), columnOf, drawHatch), notes: drawNotes, hits: drawMarks, keyframes: drawFilm };
   for (const lane of lanes.rows) drawings[lane]({ ...to, ...lanePlace(lane) });
-  drawBracket({ ...to, y: 0, high: height }, columnOf);
   drawAnswers({ ...to, y: 0, high: height }, columnOf);
-  drawSelected(to, height);
   drawNow(to, height);
 }
 
@@ -243,23 +240,4 @@ function drawNow({ pen, colour, width }, height) {
   if (!isPast() || x < 0 || x > width) return;
   pen.fillStyle = colour("link");
   pen.fillRect(x - 0.5, AXIS - 3, 1, height);
-}
-
-/** Draws what is selected.
- * @param {Omit<Place, "y" | "high">} place
- * @param {number} height */
-function drawSelected({ pen, colour }, height) {
-  if (!timeline.selected) return;
-  const { from, to } = selectedSpan();
-  pen.fillStyle = colour("link");
-  pen.globalAlpha = 0.2;
-  pen.fillRect(columnOf(from), 0, Math.max(1, columnOf(to) - columnOf(from)), height);
-  pen.globalAlpha = 1;
-}
-
-/** Selects nothing any more. */
-export function forgetSelected() {
-  if (!timeline.selected) return;
-  timeline.selected = null;
-  drawLanes();
 }

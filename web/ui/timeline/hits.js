@@ -42,7 +42,7 @@ export async function askHits(from, to, draw) {
   const of = [app.work.generation, app.work.fork, begin, end].join();
   if (!app.latest || app.latest.on || !conditions.length || isAhead() || end <= begin || listedHits.of === of) return;
   listedHits = { ...listedHits, of };
-  const found = await app.past.hits(begin, end, conditions);
+  const found = await app.past.ask("hits", { from: begin, to: end, conditions });
   if (!found || was !== wantedHits || listedHits.of !== of) return;
   listedHits = { of, marks: found.hits.map(({ at, which }) => [at, names[which]]), end: found.end < end ? found.end : Infinity };
   draw();

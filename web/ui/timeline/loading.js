@@ -115,7 +115,7 @@ async function askChanges() {
   const number = ++loading.changing, { generation } = app.work;
   for (let isDone = false; !isDone && number === loading.changing && app.latest;) {
     const { from, to } = timeline, isOn = app.latest.on, size = tickStep((to - from) / CELLS);
-    const found = await app.past.changes({ from, to, size, now: nowCount(), isOn });
+    const found = await app.past.ask("changes", { from, to, size, now: nowCount(), isOn });
     if (!found || generation !== app.work.generation || number !== loading.changing) return;
     takeLanes({ cells: found.cells });
     isDone = found.isDone || isOn;

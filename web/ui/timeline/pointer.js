@@ -2,16 +2,15 @@
 /* The mouse, fingers and the wheel on the track of the timeline. */
 import { answerAt } from "./answers.js";
 import { app } from "../../host/app.js";
-import { bracketAt } from "./bracket.js";
 import { callText, callUnder } from "./callslane.js";
 import { commands } from "../../host/commands.js";
-import { drawLanes, forgetSelected, laneAt } from "./drawing.js";
+import { laneAt } from "./drawing.js";
 import { el, isNarrow, set } from "../../host/elements.js";
 import { hitMarks } from "./hits.js";
 import { claimMarks, lanes } from "./lanes.js";
 import { showSpan, zoom } from "./loading.js";
 import { shownCount } from "../../host/shown.js";
-import { columnOf, columns, countAt, selectedSpan, timeline } from "./span.js";
+import { columnOf, columns, countAt, timeline } from "./span.js";
 
 const GLYPH_WIDTH = 6, FINGER_MOVE = 6;
 // The room on each side of a call that is zoomed to, as a part of it.
@@ -20,7 +19,7 @@ const MARGIN = 0.02;
  * @type {Map<number, number>} */
 const pointers = new Map();
 // A finger looks at the count that it `pressed` only once it moves or is lifted, since another may come with it.
-const pressing = { isSelecting: false, at: /** @type {number | null} */ (null) };
+const pressing = { at: /** @type {number | null} */ (null) };
 
 /** @param {MouseEvent} event */
 const xOf = (event) => event.clientX - el("track").getBoundingClientRect().left;
@@ -33,32 +32,17 @@ export function trackPressed(event) {
   pointers.set(event.pointerId, event.clientX);
   el("track").setPointerCapture(event.pointerId);
   el("cursor").focus({ preventScroll: true });
-  if (event.shiftKey) return beginSelecting(event);
   const isDragged = pointers.size === 1, at = answerUnder(event)?.count ?? glyphNear(event) ?? countAt(xOf(event)), isFinger = event.pointerType === "touch";
   timeline.isDragged = isDragged;
   pressing.at = isDragged && isFinger ? at : null;
   if (isDragged && !isFinger) return commands.moveCursor(at, false);
 }
 
-/** @param {PointerEvent} event */
-function beginSelecting(event) {
-  const anchor = countAt(xOf(event));
-  Object.assign(pressing, { isSelecting: true, at: null });
-  Object.assign(timeline, { isDragged: false, selected: { anchor, to: anchor } });
-}
-
-/** @param {PointerEvent} event */
-function selectUpTo(event) {
-  if (!timeline.selected) return;
-  timeline.selected = { ...timeline.selected, to: countAt(Math.max(0, Math.min(columns(), xOf(event)))) };
-  drawLanes();
-}
-
-/** Says what call is under the mouse, if it is in their lane, or where a trace parts from the machine.
+/** Says what call is under the mouse, if it is in their lane.
  * @param {PointerEvent} event */
 function nameUnder(event) {
-  const x = xOf(event), at = laneAt(yOf(event));
-  set("track", { title: answerUnder(event)?.what || bracketAt(x, columnOf) || (at?.lane === "calls" ? callText(Math.floor(countAt(x)), at.row, at.rows) : "") });
+  const at = laneAt(yOf(event));
+  set("track", { title: answerUnder(event)?.what || (at?.lane === "calls" ? callText(Math.floor(countAt(xOf(event))), at.row, at.rows) : "") });
 }
 
 /** Returns the mark of an answer that is under the pointer, or null.
@@ -93,7 +77,6 @@ function glyphNear(event) {
 /** @param {PointerEvent} event */
 export function trackMoved(event) {
   if (!pointers.has(event.pointerId)) return nameUnder(event);
-  if (pressing.isSelecting) return selectUpTo(event);
   if (pointers.size === 2) return pinch(event);
   if (Math.abs(event.clientX - (pointers.get(event.pointerId) ?? 0)) < (pressing.at === null ? 1 : FINGER_MOVE)) return;
   pressing.at = null;
@@ -113,19 +96,11 @@ function pinch({ pointerId, clientX }) {
 /** @param {PointerEvent} event */
 export function trackReleased(event) {
   if (!pointers.delete(event.pointerId)) return;
-  if (pressing.isSelecting) return endSelecting();
   if (!timeline.isDragged) return;
   const at = pressing.at ?? shownCount();
   timeline.isDragged = false;
   pressing.at = null;
   return commands.moveCursor(at);
-}
-
-/** Ends the selecting. A press without a move selects nothing. */
-function endSelecting() {
-  const { from, to } = selectedSpan();
-  pressing.isSelecting = false;
-  if (columnOf(to) - columnOf(from) < 2) forgetSelected();
 }
 
 /** The wheel zooms around the pointer with Ctrl, and moves along with Shift, or sideways; else it scrolls the page.

@@ -1,7 +1,6 @@
 // @ts-check
 /* Runs the machine, and what is done with a machine that runs. */
 import { app } from "../../host/app.js";
-import { followWork } from "../../host/autosave.js";
 import { branchOff } from "./branches.js";
 import { offer } from "../../host/commands.js";
 import { catchUp } from "../screen/devices.js";
@@ -39,8 +38,8 @@ export async function takeOver() {
   setToGoOn(!app.latest?.on);
   const answer = await app.live.ask("takeOver");
   if (!answer) return;
-  if (app.work.id !== null) branchOff(nowCount(), answer);
-  else await followWork(Object.assign(app.work, { fork: answer.fork, journals: [] }), answer.begun);
+  if (app.work.head) branchOff(nowCount(), answer);
+  else await Object.assign(app.work, { fork: answer.fork, base: null }).follow(answer.begun);
   el("screen").focus({ preventScroll: true });
 }
 

@@ -1,16 +1,13 @@
 // @ts-check
-/* The span of counts that is in sight in the timeline, the part of it that is selected, and the columns that counts have there. */
+/* The span of counts that is in sight in the timeline, and the columns that counts have there. */
 import { lanes } from "./lanes.js";
 import { perSecond } from "../../host/shown.js";
 import { PER_SECOND } from "../../formats/states.js";
 
 /** The fewest counts that a span has. */
 export const LEAST_SPAN = 16;
-/** The span, in `columns` points: `isWhole` if it is all that is known, `isDragged` while the cursor is dragged in it, and `selected` is the part that was selected,
- * from one count to another. */
-export const timeline = {
-  from: 0, to: PER_SECOND, isWhole: true, isDragged: false, columns: 1, selected: /** @type {{ anchor: number, to: number } | null} */ (null),
-};
+/** The span, in `columns` points: `isWhole` if it is all that is known, and `isDragged` while the cursor is dragged in it. */
+export const timeline = { from: 0, to: PER_SECOND, isWhole: true, isDragged: false, columns: 1 };
 
 /** The span of all that is known, rounded up, so that it does not move with each frame. */
 export function wholeSpan() {
@@ -32,12 +29,6 @@ export const countAt = (x) => timeline.from + (x / columns()) * (timeline.to - t
 export function tickStep(least) {
   const unit = least >= perSecond() / 1000 ? perSecond() : 1, power = 10 ** Math.floor(Math.log10(Math.max(1, least) / unit));
   return Math.max(1, unit * power * ([1, 2, 5, 10].find((share) => share * unit * power >= least) ?? 10));
-}
-
-/** Returns the span that is selected, or else the one in sight. */
-export function selectedSpan() {
-  const { selected, from, to } = timeline, ends = selected ? [selected.anchor, selected.to] : [from, to];
-  return { from: Math.max(0, Math.floor(Math.min(...ends))), to: Math.ceil(Math.max(...ends)), isSelected: Boolean(selected) };
 }
 
 /** Returns the entries of a list whose counts are in the span; the list is in the order of its counts.

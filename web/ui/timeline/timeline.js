@@ -1,7 +1,6 @@
 // @ts-check
 /* The timeline: lanes of what came, what was sent and what changed over the counts, with a cursor that is a slider. What is known of the lanes is in lanes.js, the span
  * in sight in span.js; drawing.js draws them, cursor.js shows the cursor, loading.js asks for what they show, and pointer.js hears the mouse. */
-import { forgetBracket } from "./bracket.js";
 import { forgetCalls, turnCalls } from "./callslane.js";
 import { showCursor } from "./cursor.js";
 import { drawLanes } from "./drawing.js";
@@ -17,9 +16,8 @@ import { countOf } from "../../formats/states.js";
 /** Begins the lanes of a machine that was opened. */
 export function beginLanes() {
   forgetLanes(nowCount());
-  Object.assign(timeline, { isWhole: true, isDragged: false, selected: null });
+  Object.assign(timeline, { isWhole: true, isDragged: false });
   forgetCalls();
-  forgetBracket();
   freshen(true);
 }
 
@@ -30,7 +28,6 @@ export function forgetAfter(at) {
   const isBefore = ([count]) => count <= at;
   const passed = new Map([...lanes.passed].filter(isBefore));
   forgetHits(at);
-  forgetBracket(at);
   forgetCalls();
   for (const item of el("passed").querySelectorAll("li")) if (Number(item.dataset.count) > at) item.remove();
   takeLanes({ end: at, cells: lanes.cells.filter(({ end }) => end <= at), passed });

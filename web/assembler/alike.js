@@ -1,24 +1,8 @@
 // @ts-check
-/* What other assemblers write, and what is written here instead, for messages; and names that are alike. */
-import { elsewhere, most } from "../../tools/galluspa/formats/assembler.json";
+/* Names that are alike, so that a message says which one may be meant. */
+import { most } from "../../tools/galluspa/formats/assembler.json";
 
-const HERE = new Map(elsewhere.rows.flatMap(([names, here]) => names.split(" ").map((name) => /** @type {[string, string]} */ ([name, here]))));
-// An operation with a condition, which may also be one that sets flags; and one with the letter of those that set flags.
-const CONDITIONAL = new RegExp(`^(?:${elsewhere.operations.join("|")})S?(?:${elsewhere.conditions.join("|")})$`);
-const SETTING = new RegExp(`^(?:${elsewhere.setting.join("|")})S$`);
 const LETTERS = "ABCDEFGHIJKLMNOPQRSTUVWXYZ0123456789_";
-
-/** What a register is called elsewhere, and what is written here. */
-export const REGISTERS_ELSEWHERE = new Map(Object.entries(elsewhere.registers));
-/** What begins a token elsewhere, and what is written here. */
-export const SIGNS = new Map(Object.entries(elsewhere.signs));
-
-/** Returns what is written here for a name of another assembler, in capital letters; nothing, if nothing is known.
- * @param {string} name */
-export function hereOf(name) {
-  const alike = CONDITIONAL.test(name) ? "ADDEQ" : SETTING.test(name) ? "ADDS" : "";
-  return HERE.get(name) ?? HERE.get(alike) ?? "";
-}
 
 /** Whether two names differ in the case of letters alone; or, if both have three or more, by a letter that is left out, is another
  * one, or has changed places with the next.
