@@ -15,20 +15,17 @@ LONGEST = [
     "test_find",
     "test_documents",
     "test_fuzz",
+    "test_refusals",
     "test_recorded",
     "test_strangers_cost",
     "test_rerun_output",
     "test_rerun_why",
-    "test_report",
-    "test_strangers",
     "test_wheel",
     "test_recipes",
     "test_session",
-    "test_coverage",
     "test_slices",
     "test_bisect",
     "test_symbols",
-    "test_package",
     "test_trace",
 ]
 
@@ -51,25 +48,15 @@ def shared_library() -> Path:
 
 
 def pytest_addoption(parser: pytest.Parser) -> None:
-    """The options of `tests/run page`."""
+    """The option of `tests/run page`."""
     parser.addoption("--module", metavar="FILE", help="the page is built around a module that is there, as web/build does")
-    parser.addoption("--part", metavar="PART", action="append", default=[], help="only the tests of a part of the page")
 
 
 @pytest.hookimpl(tryfirst=True)
-def pytest_collection_modifyitems(config: pytest.Config, items: list[pytest.Item]) -> None:
-    """Leaves out the parts that are not wanted, and puts the files that take longest first."""
-    if wanted := set(config.getoption("--part")):
-        dropped = [item for item in items if not wanted & part_of(item)]
-        config.hook.pytest_deselected(items=dropped)
-        items[:] = [item for item in items if wanted & part_of(item)]
+def pytest_collection_modifyitems(items: list[pytest.Item]) -> None:
+    """Puts the files that take longest first."""
     places = {name: place for place, name in enumerate(LONGEST)}
     items.sort(key=lambda item: places.get(item.path.stem, len(LONGEST)))
-
-
-def part_of(item: pytest.Item) -> set[str]:
-    """Returns the part of the page that a test is of."""
-    return {str(mark.args[0]) for mark in item.iter_markers("part")}
 
 
 def pytest_terminal_summary(terminalreporter: TerminalReporter) -> None:

@@ -33,17 +33,6 @@ function turnOf(open, branch, links) {
 const top = (stack) => stack.at(-1)?.to ?? NO_CALL;
 const callsOf = ({ calls }) => Array.from({ length: calls.length / 24 }, (_, number) => callAt(calls, number));
 
-/** The instructions of each procedure between two counts, by looking at each count. */
-function profiled({ at, stop, turns }, from, to) {
-  const rows = new Map(), of = (word) => rows.get(word) ?? (rows.set(word, { own: 0, whole: 0, calls: 0 }), rows.get(word));
-  for (let count = from; count < Math.min(to, stop); count++) {
-    of(top(at(count))).own++;
-    for (const word of new Set([NO_CALL, ...at(count).map((call) => call.to)])) of(word).whole++;
-  }
-  for (const { count, call } of turns) if (call && count >= from && count < to) of(call.to).calls++;
-  return [...rows].sort(([one], [other]) => one - other).map(([word, { own, whole, calls }]) => [word, own, whole, calls]);
-}
-
 /** Programs that call, return, jump, move R14, write their code, wait for keys, and sometimes stop. */
 function drawn(random) {
   const length = 4 + random(28), jump = (kind, from, to) => ((kind << 24) | ((to - from - 1) & 0x3fffff)) >>> 0;
@@ -82,12 +71,10 @@ async function follow() {
     }
     const [from, to] = span(), width = [1, 3, 40][program % 3];
     if (from < to) expectFrames(`program ${program}`, await wholeOf(desk, { from, to, width }), run);
-    const { entries, own, whole, calls } = await desk.past.profile(from, to), rows = entries.map((word, at) => [word, own[at], whole[at], calls[at]]).filter(([, ...numbers]) => numbers.some(Boolean));
-    expect(`the profile of program ${program} from ${from} to ${to}`, rows.sort(([one], [other]) => one - other), profiled(run, from, to));
   }
   desk.end();
   if (most < 4 || ended < 100) fail(`too little was called: ${most} open at most, ${ended} ended`);
-  console.log(`calls: ${asked} stacks of 40 random programs, up to ${most} open, ${ended} ends of them, flame graphs and profiles as the definition has them`);
+  console.log(`calls: ${asked} stacks of 40 random programs, up to ${most} open, ${ended} ends of them, and flame graphs as the definition has them`);
 }
 
 /** The calls of a span as the lane has them, once all of them are known. */

@@ -26,7 +26,6 @@ async function takeOver() {
   await takeOverAgain(desk);
   await takeOverFull(desk);
   await takeOverKept(desk, session);
-  await takeOverLate(desk, session);
   desk.end();
   console.log("take-overs: the recording has the inputs before, and goes on with those after; also from the beginning, and of a replay");
 }
@@ -97,20 +96,6 @@ async function takeOverBeforeKeys(desk) {
   expect("how much waits for a run that was kept", waits(), keys.length);
   await desk.live.ask("takeOver");
   expect("how much waits for one that is taken over before", waits(), 0);
-}
-
-/** A moment of a machine is none of one that was opened since; and a replay that is over cannot be taken over once more. */
-async function takeOverLate(desk, session) {
-  await desk.openSession(session);
-  await desk.run(3000000);
-  const moment = await desk.past.moment(1000000);
-  await desk.openSession(example("draw"));
-  await desk.run(3000000);
-  const answers = [await desk.live.ask("takeOver", moment), await desk.live.ask("recordingTo", moment)];
-  expect("what a late take-over answers, and a recording", answers, [null, null]);
-  const { state } = desk.frames.findLast((news) => news.state);
-  expect("the count of the machine that was opened since", countOf(state), 3000000);
-  expect("what a take-over answers where no replay goes on", await desk.live.ask("takeOver"), null);
 }
 
 module.exports = [takeOver];

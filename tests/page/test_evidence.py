@@ -11,7 +11,6 @@ BLANK = """<!doctype html><title>blank</title><body style="height: 3000px">
 <script>console.error("first line of the console"); setTimeout(() => { throw new Error("second line"); });</script>"""
 
 
-@pytest.mark.part("evidence")
 def test_a_failure_leaves_the_pages(tmp_path: Path, capsys: pytest.CaptureFixture[str]) -> None:
     """The error goes on; the folder that is named has the page down to its end, and what its console said."""
     path = tmp_path / "blank.html"

@@ -86,7 +86,7 @@ class Desk {
     this.toPage.push({ frame: { fork: run.fork, more, taken: run.arrivals.taken } });
   }
 
-  /** The page hears the next message, as host/autosave.js does. */
+  /** The page hears the next message, as host/work.js does. */
   hear() {
     const { work, piece, answer, frame, begun, again, fork } = this.toPage.shift() ?? {}, now = this.work;
     if (piece) work.typed.drop(piece);

@@ -114,7 +114,8 @@ async function stop() {
     expect("questions that were ended", await Promise.all(asked), [{ stopped: true }, null]);
     took.push(performance.now() - begun);
   }
-  if (Math.min(...took) > 100) fail(`to end questions took ${took} ms`);
+  // (whole, they take many seconds; what else runs may hold a worker up for some tenths)
+  if (Math.min(...took) > 1000) fail(`to end questions took ${took} ms`);
   const asked = desk.past.why({ register: 12, before: end, links: 20 }), hit = await desk.past.find({ to: 100, conditions: [{ kind: COUNTER, from: 1, end: 2 }] });
   expect("a question that a search ended, and what that found", [await asked, hit.at], [{ stopped: true }, 1]);
   desk.end();

@@ -50,10 +50,10 @@ globalThis.onmessage = null;
 globalThis.postMessage = () => {};
 globalThis.addEventListener = () => {};
 const withLines = (script, lines) => script.replace(/\}\)\(\);\s*$/, (end) => `${lines}\n${end}`);
-(0, eval)(withLines(workerScript, "globalThis.kit = { Claims, Library, Replayer, Keyframes, History, readSession, readRecording, callAt, countOf, field, AT };"));
+(0, eval)(withLines(workerScript, "globalThis.kit = { Library, Replayer, Keyframes, History, readSession, readRecording, callAt, countOf, field, AT };"));
 globalThis.document = { readyState: "loading", getElementById: () => ({}) };
 (0, eval)(withLines(unpacked("main").toString(), "globalThis.ofPage = { Past, Helper, setWorkerScript };"));
-const { Claims, Library, Replayer, Keyframes, History, readSession, readRecording, callAt, countOf, field, AT } = kit;
+const { Library, Replayer, Keyframes, History, readSession, readRecording, callAt, countOf, field, AT } = kit;
 const { Past, Helper, setWorkerScript } = ofPage;
 
 function fail(why) {
@@ -186,6 +186,6 @@ function withFalseKeyframes(number) {
 }
 
 module.exports = {
-  AT, FOLDER, Claims, Desk, Fresh, History, Keyframes, Library, callAt, chance, countOf, drawing, example, expect, expectMoment, fail, field, labels,
+  AT, FOLDER, Desk, Fresh, History, Keyframes, Library, callAt, chance, countOf, drawing, example, expect, expectMoment, fail, field, labels,
   readRecording, readSession, sorted, wasm, withFalseKeyframes, withNumbers, COUNTER, STORE, CHANGE, LOAD, BECOMES, SENDS, SENDS_BYTE, TAKES, STOPS, KIND_NAMES,
 };

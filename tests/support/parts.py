@@ -8,22 +8,20 @@ from pathlib import Path
 from typing import NoReturn
 
 from tests.support import TOP
-from tests.support.suites import PACKAGES, is_value, run_suite
+from tests.support.suites import PACKAGES, run_suite
 
 PROCESSORS = os.cpu_count() or 1
 
 
 def page_words(arguments: Sequence[str]) -> list[str]:
     """Returns the arguments of the page's tests as options of pytest, each in one word, since it knows these only once it has read the names
-    of the files. The name of a part of the page is an option, too."""
-    from tests.page.parts import NAMES
-
+    of the files."""
     words: list[str] = []
     for word, before in zip(arguments, ["", *arguments]):
-        if before in ("--module", "--part"):
+        if before == "--module":
             words[-1] += f"={word}"
         else:
-            words.append(f"--part={word}" if word in NAMES and not is_value(before) else word)
+            words.append(word)
     return words
 
 
@@ -56,7 +54,7 @@ SUITES: Mapping[str, Suite] = {
     "page": Suite(
         "the live page, built anew, in node and in a headless Chromium; needs the program and the library",
         3,
-        "loadgroup",
+        "loadfile",
         {
             "chromium": "chromium",
             "binaryen": "wasm-opt",
@@ -69,7 +67,7 @@ SUITES: Mapping[str, Suite] = {
         page_words,
     ),
     "tools": Suite(
-        "the tools, the packages, and what the documents show; needs the program and the shared library",
+        "the tools, the wheel, and what the documents show; needs the program and the shared library",
         PROCESSORS,
         "loadfile",
         {
@@ -78,7 +76,6 @@ SUITES: Mapping[str, Suite] = {
             "mandoc": "mandoc",
             "parallel": "parallel",
             "perl": "prove",
-            "pkgconf": "pkg-config",
             "python3-build": PACKAGES / "build",
             "python3-jinja2": PACKAGES / "jinja2",
             "python3-pil": PACKAGES / "PIL",
@@ -86,7 +83,6 @@ SUITES: Mapping[str, Suite] = {
             "python3-setuptools": PACKAGES / "setuptools",
             "python3-venv": PACKAGES.parent.parent / "python3.11/ensurepip",
             "python3-wheel": PACKAGES / "wheel",
-            "python3-yaml": PACKAGES / "yaml",
             "valgrind": "callgrind_annotate",
         },
     ),
@@ -105,7 +101,7 @@ SCRIPTS: Mapping[str, str] = {
 def listing() -> str:
     """Returns the parts, a line for each."""
     about = {name: suite.about for name, suite in SUITES.items()}
-    about |= {PROGRAMS: "random programs, against machines in C; needs the program and the library", **SCRIPTS}
+    about |= {PROGRAMS: "what the program prints, and random programs; needs the program and the library", **SCRIPTS}
     return "\n".join(["usage: tests/run PART [ARGUMENT ..]", "", *(f"  {name:21}{it}" for name, it in about.items())])
 
 

@@ -39,7 +39,7 @@ def run_suite(
     folder: Path, arguments: Sequence[str], jobs: int, needed: Mapping[str, str | Path], dist: str = "loadfile"
 ) -> NoReturn:
     """Runs the tests of a folder in a number of processes, by default each file of tests in one of them. Arguments are those of pytest; besides,
-    a file of the folder goes by its name, as in `test_film`, and so do its tests: `test_film.FilmTest.test_helps`."""
+    a file of the folder goes by its name, as in `diff` or `test_diff`, and so do its tests: `diff.DiffTest.test_helps`."""
     get_ready(folder.name, needed)
     words = chosen(folder, arguments)
     # Suites that run side by side each note in a place of their own which tests failed last.
@@ -67,7 +67,7 @@ def processes(arguments: Sequence[str], jobs: int, dist: str) -> list[str]:
 def _as_test(folder: Path, word: str, before: str) -> str:
     """Returns an argument as pytest has it: the path of a file of tests for its name, and the tests in it after two colons."""
     name, *inside = word.split(".")
-    path = folder / f"{name}.py"
-    if is_value(before) or word.startswith("-") or not path.is_file() or inside == ["py"]:
+    path = next((it for it in (folder / f"{name}.py", folder / f"test_{name}.py") if it.is_file()), None)
+    if is_value(before) or word.startswith("-") or path is None or inside == ["py"]:
         return word
     return "::".join([str(path), *inside])

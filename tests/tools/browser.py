@@ -4,11 +4,8 @@ Browser, page and pipe know each other, so this is one module of more than 400 l
 """
 
 import base64
-import gzip
-import hashlib
 import json
 import os
-import re
 import select
 import subprocess
 import tempfile
@@ -36,11 +33,6 @@ WIDTHS = (420, 800, 1100, 1280, 1920)
 # The numbers of keys that do something in a page.
 NUMBERS = {"Backspace": 8, "Tab": 9, "Enter": 13, " ": 32, "ArrowUp": 38, "ArrowDown": 40, "Delete": 46}
 
-# The script of the live page is one function, with no global names. The driver opens a copy of the page in which that function has one line
-# more, so that what is asked of the page is evaluated inside.
-SCRIPT = re.compile(r'(?<=id="g-main">)[^<]*(?=</script>)')
-SCRIPT_END = re.compile(r"\}\)\(\);\s*$")
-INSIDE = "globalThis.inside = (text) => eval(text);\n"
 # What a test sees of a page by its elements.
 SEEN = Path(__file__).with_name("seen.js").read_text()
 
@@ -155,35 +147,12 @@ class Pipe:
         return self._errors.read()[-2000:].decode(errors="replace")
 
 
-def policy_of(script: str) -> str:
-    """Returns the hash by which a policy lets a script run."""
-    return f"sha256-{base64.b64encode(hashlib.sha256(script.encode()).digest()).decode()}"
-
-
-def opened_inside(text: str) -> str:
-    """Returns a page whose script also evaluates what it is asked, or the page as it is if it is not the live page."""
-    found = SCRIPT.search(text)
-    if not found:
-        return text
-    own = gzip.decompress(base64.b64decode(found[0])).decode()
-    script = SCRIPT_END.sub(lambda end: INSIDE + end[0], own)
-    # Without the quotation marks, which a report escapes.
-    changed = text.replace(found[0], base64.b64encode(gzip.compress(script.encode())).decode())
-    return changed.replace(policy_of(own)[1:-1], policy_of(script)[1:-1])
-
-
 class Page:
     """A page that is open, and what its console and its network told."""
 
-    def __init__(self, pipe: Pipe, path: Path) -> None:
+    def __init__(self, pipe: Pipe, path: Path, context: str = "") -> None:
         self._pipe = pipe
-        text = path.read_text()
-        inside = opened_inside(text)
-        self._copy = tempfile.TemporaryDirectory(ignore_cleanup_errors=True)
-        self._is_inside = inside != text
-        if self._is_inside:
-            path = Path(self._copy.name) / path.name
-            path.write_text(inside)
+        self._context = {"browserContextId": context} if context else {}
         self._session = ""
         self._chooser = 0
         self.errors: list[str] = []
@@ -197,7 +166,7 @@ class Page:
         self._workers: list[str] = []
         self._traced: list[dict[str, Any]] = []
         self._is_traced = True
-        self._target = self._ask("Target.createTarget", url="about:blank")["targetId"]
+        self._target = self._ask("Target.createTarget", url="about:blank", **self._context)["targetId"]
         self._session = self._ask("Target.attachToTarget", targetId=self._target, flatten=True)["sessionId"]
         for domain in ("Page", "Runtime", "Log", "Network", "Inspector"):
             self._ask(f"{domain}.enable")
@@ -209,8 +178,6 @@ class Page:
 
     def answer(self, expression: str) -> Any:
         """Returns the value of an expression of JavaScript in the page; promises are waited for."""
-        if self._is_inside:
-            expression = f"(globalThis.inside ?? eval)({json.dumps(expression)})"
         told = self._ask("Runtime.evaluate", expression=expression, awaitPromise=True, returnByValue=True)
         if "exceptionDetails" in told:
             raise RuntimeError(told["exceptionDetails"])
@@ -314,11 +281,11 @@ class Page:
         self._ask("Input.imeSetComposition", text=begun, selectionStart=len(begun), selectionEnd=len(begun))
         self._ask("Input.insertText", text=text)
 
-    def press(self, key: str, code: str = "", modifiers: int = 0, number: int = 0) -> None:
-        """Presses and releases a key; one character is its text."""
+    def press(self, key: str, code: str = "", modifiers: int = 0, number: int = 0, commands: Sequence[str] = ()) -> None:
+        """Presses and releases a key; one character is its text. What a key edits in a browser is a command, such as `selectAll`."""
         text = {"text": "\r" if key == "Enter" else key} if len(key) == 1 or key == "Enter" else {}
         common = {"key": key, "code": code or key, "modifiers": modifiers, "windowsVirtualKeyCode": number or NUMBERS.get(key, 0)}
-        self._ask("Input.dispatchKeyEvent", type="keyDown" if text else "rawKeyDown", **common, **text)
+        self._ask("Input.dispatchKeyEvent", type="keyDown" if text else "rawKeyDown", **common, **text, commands=[*commands])
         self._ask("Input.dispatchKeyEvent", type="keyUp", **common)
 
     def focused(self) -> tuple[str, str]:
@@ -337,9 +304,14 @@ class Page:
         self._ask("DOM.setFileInputFiles", backendNodeId=self._chooser, files=[str(path.resolve())])
         self._ask("Page.setInterceptFileChooserDialog", enabled=False)
 
+    def beside(self, path: Path) -> "Page":
+        """Returns a file, opened as another page of the same profile."""
+        return Page(self._pipe, path, self._context.get("browserContextId", ""))
+
     def save_into(self, folder: Path) -> None:
         """Has files that the page saves go to a folder."""
-        self._ask("Browser.setDownloadBehavior", behavior="allow", downloadPath=str(folder.resolve()), eventsEnabled=True)
+        there = {"behavior": "allow", "downloadPath": str(folder.resolve()), "eventsEnabled": True}
+        self._ask("Browser.setDownloadBehavior", **there, **self._context)
 
     def has_saved(self, name: str) -> bool:
         """Returns whether a file of this name is saved, and whole; it is said of each file once. The browser reserves a name with
@@ -369,7 +341,6 @@ class Page:
         while self._pipe.receive().get("method") != "Inspector.targetCrashed":
             pass
         self._pipe.pages.remove(self)
-        self._copy.cleanup()
 
     def is_kept_open(self) -> bool:
         """Loads the page anew, and answers no if the browser asks. Returns whether it asked, so that the page is still open."""
@@ -386,12 +357,14 @@ class Page:
         limit = {} if most is None else {"quotaSize": most}
         self._ask("Storage.overrideQuotaForOrigin", origin="file://", **limit)
 
+    def clear_storage(self) -> None:
+        """Deletes all that pages from disk keep."""
+        self._ask("Storage.clearDataForOrigin", origin="file://", storageTypes="all")
+
     def _wait_for_load(self) -> None:
-        """Waits until the page is loaded, and its own script unpacked."""
+        """Waits until the page is loaded."""
         while self._read().get("method") != "Page.loadEventFired":
             pass
-        if self._is_inside:
-            self.wait("globalThis.inside")
 
     def leave_for(self, url: str) -> None:
         """Goes to another page."""
@@ -410,18 +383,6 @@ class Page:
         self._ask("HeapProfiler.collectGarbage")
         used: float = self._ask("Runtime.getHeapUsage")["usedSize"]
         return used
-
-    def worker_heaps(self) -> list[float]:
-        """Returns the bytes that the script of each worker of the page has in use, with its buffers if the browser counts them, garbage left out."""
-        self._workers = []
-        self._ask("Target.setAutoAttach", autoAttach=True, waitForDebuggerOnStart=False, flatten=True)
-        found = []
-        for session in self._workers:
-            self._ask_in(session, "HeapProfiler.collectGarbage")
-            usage = self._ask_in(session, "Runtime.getHeapUsage")
-            found.append(usage["usedSize"] + usage.get("backingStorageSize", 0))
-        self._ask("Target.setAutoAttach", autoAttach=False, waitForDebuggerOnStart=False, flatten=True)
-        return found
 
     def task_seconds(self) -> float:
         """Returns the processor time that the tasks of the page's own thread took, from the first call on."""
@@ -454,7 +415,6 @@ class Page:
         while not self._is_gone:
             self._read()
         self._pipe.pages.remove(self)
-        self._copy.cleanup()
 
     def _ask(self, method: str, **parameters: object) -> dict[str, Any]:
         return self._ask_in(self._session, method, **parameters)
@@ -538,6 +498,22 @@ class Browser:
         opened = Page(self.pipe, path)
         yield opened
         opened.close()
+
+    @contextmanager
+    def fresh(self, path: Path) -> Iterator[Page]:
+        """A file, opened as a page in a profile of its own, of which nothing stays."""
+        context = self.ask("Target.createBrowserContext")["browserContextId"]
+        yield Page(self.pipe, path, context)
+        self.ask("Target.disposeBrowserContext", browserContextId=context)
+        self.pipe.pages.clear()
+
+    def ask(self, method: str, **parameters: object) -> dict[str, Any]:
+        """Asks the browser itself, and returns its answer."""
+        asked = self.pipe.send({"method": method, "params": parameters})
+        while (told := self.pipe.receive()).get("id") != asked:
+            pass
+        result: dict[str, Any] = told["result"]
+        return result
 
     def leave(self) -> None:
         """Leaves a picture of each page that is open and what its console said in a new folder, and prints where that is."""

@@ -1,7 +1,7 @@
 """What the tests of `galluspa debug` and `galluspa why` share: the recording of examples/frames, which docs/debugging.md follows, and the lines
 that commands of the debugger print."""
 
-from tests.tools.samples import EXAMPLES, Ran, ToolTest, record, tool
+from tests.tools.samples import EXAMPLES, Ran, ToolTest, tool
 
 
 class FramesTest(ToolTest):
@@ -9,24 +9,22 @@ class FramesTest(ToolTest):
 
     def setUp(self) -> None:
         super().setUp()
-        ran = tool("assemble", EXAMPLES / "frames/main.asm", "-o", self.folder / "it.json", "--symbols", self.folder / "it.sym")
-        self.assertEqual(ran.status, 0, ran.errors)
-        self.recording = self.file("it.orsr", record((self.folder / "it.json").read_bytes()))
+        self.recording = self.assembled(EXAMPLES / "frames/main.asm")
 
     def ran(self, *commands: str, status: int = 0) -> Ran:
-        """Returns what the debugger printed of commands."""
-        words = [word for it in commands for word in ("-ex", it)]
+        """Returns what the debugger printed of commands, which semicolons part."""
+        words = [word for it in "; ".join(commands).split("; ") for word in ("-ex", it)]
         ran = tool("debug", self.recording, "--batch", "--directory", EXAMPLES, *words)
         self.assertEqual(ran.status, status, ran.errors)
         return ran
 
     def printed(self, *commands: str) -> list[list[str]]:
         """Returns the lines that each command printed; those of a point's commands are given with a prompt of their own."""
-        found: list[list[str]] = []
+        given, found = "; ".join(commands).split("; "), list[list[str]]()
         for line in self.ran(*commands).output.decode().splitlines():
-            if any(line in (f"({line[1:].partition(')')[0]}) {it}", f"> {it}") for it in commands):
+            if any(line in (f"({line[1:].partition(')')[0]}) {it}", f"> {it}") for it in given):
                 found.append([])
             else:
                 found[-1].append(line)
-        self.assertEqual(len(found), len(commands))
+        self.assertEqual(len(found), len(given))
         return found

@@ -17,7 +17,9 @@ from dataclasses import dataclass
 from pathlib import Path
 from typing import Any
 
-from galluspa.formats.recording import Checkpoint, Event, Recording, page_of, table_of, write
+from galluspa.engine.library import Library
+from galluspa.engine.tracing import Run
+from galluspa.formats.recording import Checkpoint, Event, Recording, page_of, read, table_of, write
 
 TOP = Path(__file__).resolve().parents[2]
 TOOLS = TOP / "tools"
@@ -110,6 +112,12 @@ def rejoining(claimed: int) -> bytes:
     return encoded(1, [page_of(0x45000001, 0xE7FFFFFE)], [claim(0), first, second])
 
 
+def run_of(text: bytes, true: range | None = None) -> Run:
+    """Returns the run of a true recording, or from those of its checkpoints that are taken to be true."""
+    decoded = read(text)
+    return Run(Library.find(None), decoded, range(len(decoded.checkpoints)) if true is None else true)
+
+
 def status_of(text: bytes) -> int:
     """Returns the exit status of the program for a recording's text: 0, 1 or 2."""
     return run([PROGRAM], text).status
@@ -173,6 +181,32 @@ class ToolTest(unittest.TestCase):
         path.write_bytes(content if isinstance(content, bytes) else content.encode())
         return path
 
+    def executable(self, name: str, script: str) -> Path:
+        """Returns a script of the shell in the test's folder."""
+        path = self.file(name, f"#!/bin/sh\n{script}\n")
+        path.chmod(0o755)
+        return path
+
+    def recorded(
+        self, words: Iterable[int], checkpoints: Iterable[int], inputs: Iterable[tuple] = (), name: str = "it.orsr"
+    ) -> Path:
+        """Returns the recording of words from place 0 on."""
+        return self.file(name, record(session(words, checkpoints, inputs)))
+
+    def assembled(self, source: str | Path, name: str = "it", **changed: object) -> Path:
+        """Returns the recording of a source, with its session and its symbol file beside it; parts of the session may be changed."""
+        path = source if isinstance(source, Path) else self.file(f"{name}.asm", source)
+        made, recording = self.folder / f"{name}.json", self.folder / f"{name}.orsr"
+        ran = tool("assemble", path, "-o", made, "--symbols", recording.with_suffix(".sym"))
+        self.assertEqual(ran.status, 0, ran.errors)
+        return self.file(recording.name, record(json.loads(made.read_bytes()) | changed))
+
+    def lines_of(self, name: str, *words: object, status: int = 0, errors: str | None = "") -> list[str]:
+        """Returns the lines that a tool prints, which ends with this status, and with these words on standard error."""
+        ran = tool(name, *words)
+        self.assertEqual((ran.status, ran.errors), (status, ran.errors if errors is None else errors), ran.output)
+        return ran.output.decode().splitlines()
+
     @contextlib.contextmanager
     def takes_at_most(self, seconds: float) -> Iterator[None]:
         """What is done takes at most this many seconds of the processor, in this process and in those that it ended: what else the
@@ -197,11 +231,3 @@ class ToolTest(unittest.TestCase):
         self.assertEqual(len(ran.errors.splitlines()), 1, ran.errors)
         for words in told:
             self.assertIn(words, ran.errors)
-
-    def assert_helps(self, name: str) -> None:
-        """A tool's help ends with an example of itself."""
-        ran = tool(name, "--help")
-        self.assertEqual(ran.status, 0)
-        lines = ran.output.decode().splitlines()
-        self.assertEqual(lines[-2], "example:")
-        self.assertTrue(lines[-1].startswith(f"  galluspa {name}"))

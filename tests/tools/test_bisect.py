@@ -1,7 +1,6 @@
 """galluspa bisect, with the C machine of bench/ as the other emulator: with none and each of twelve mistakes."""
 
 import json
-import os
 import shutil
 import subprocess
 import tempfile
@@ -101,9 +100,6 @@ class BisectTest(ToolTest):
         command = [folder / "state", self.built / "it.orsr", "{count}", self.folder / f"{built}.bin"]
         return tool("bisect", self.built / file, *words, "--", *command)
 
-    def test_helps(self) -> None:
-        self.assert_helps("bisect")
-
     def test_the_same_emulator_is_the_same(self) -> None:
         for file in ("it.json", "it.orsr"):
             ran = self.bisect(-1, file=file)
@@ -132,27 +128,18 @@ class BisectTest(ToolTest):
 
     def test_it_begins_where_the_two_are_said_to_be_the_same(self) -> None:
         lines = self.bisect(5, "--from", FIRST).output.decode().splitlines()
-        self.assertEqual(
-            lines[0], f"differs after instruction {FIRST + 8}: the same at {FIRST + 8}, not at {FIRST + 9}, found by 10 runs"
-        )
+        found = f"the same at {FIRST + 8}, not at {FIRST + 9}, found by 10 runs"
+        self.assertEqual(lines[0], f"differs after instruction {FIRST + 8}: {found}")
         told = f"the emulator and the machine differ at count {FIRST + 9}, in memory: give a smaller --from"
         self.assert_refused(self.bisect(5, "--from", FIRST + 9), told)
-        self.assert_refused(self.bisect(5, "--from", 9, "--to", 9), "--from 9 is not before 9, the last count to try")
         same = self.bisect(-1, "--from", FIRST).output.decode().splitlines()
-        self.assertEqual(same[0], f"the same at {FIRST + 100}, and at each of the 101 counts that were looked at")
-        self.assertEqual(same[1], "none of the 100 instructions is one of these:")
+        self.assertEqual(same, [f"the same at {FIRST + 100}, and at each of the 101 counts that were looked at"])
 
     def test_a_digest_serves_as_well_as_a_file(self) -> None:
         memory = self.folder / "memory.bin"
-        script = self.file(
-            "digest",
-            f"""#!/bin/bash
-shown=$({self.built}/5/state {self.built}/it.orsr $1 {memory})
-digest=$(sha256sum < {memory} | head -c 64)
-echo "${{shown%, \\"memory\\"*}}, \\"memory_sha256\\": \\"$digest\\"}}"
-""",
-        )
-        script.chmod(0o755)
+        shown = f"shown=$({self.built}/5/state {self.built}/it.orsr $1 {memory})\ndigest=$(sha256sum < {memory} | head -c 64)\n"
+        told = 'echo "${shown%, \\"memory\\"*}, \\"memory_sha256\\": \\"$digest\\"}"'
+        script = self.executable("digest", shown + told)
         ran = tool("bisect", self.built / "it.json", "--", script, "{count}")
         self.assertEqual((ran.errors, ran.status), ("", 1))
         self.assertIn(f"differs after instruction {FIRST + 8}: ", ran.output.decode())
@@ -160,13 +147,8 @@ echo "${{shown%, \\"memory\\"*}}, \\"memory_sha256\\": \\"$digest\\"}}"
 
     def wrong_at(self, count: int) -> Path:
         """Returns a command that shows a wrong R5 at one count alone, of a program that sets it to 1."""
-        command = self.file(
-            "other",
-            f"#!/bin/sh\nr=1; [ $1 -eq 0 ] && r=0; [ $1 -eq {count} ] && r=9\n"
-            'echo "{\\"R\\": [0,0,0,0,0,$r,0,0,0,0,0,0,0,0,0,0]}"\n',
-        )
-        command.chmod(0o755)
-        return command
+        registers = f"r=1; [ $1 -eq 0 ] && r=0; [ $1 -eq {count} ] && r=9"
+        return self.executable("other", registers + '\necho "{\\"R\\": [0,0,0,0,0,$r,0,0,0,0,0,0,0,0,0,0]}"')
 
     def test_each_count_of_a_short_run_is_looked_at(self) -> None:
         """A difference that is gone again an instruction later is found in a short run, and in a longer one with
@@ -195,70 +177,6 @@ echo "${{shown%, \\"memory\\"*}}, \\"memory_sha256\\": \\"$digest\\"}}"
         ran = tool("bisect", many, "--", self.wrong_at(5001), "{count}")
         self.assertIn(b"; 751 of 3,001 counts after inputs are among them\n", ran.output)
         self.assertEqual(ran.status, 0)
-
-    def test_what_the_run_does_not_exercise_is_told(self) -> None:
-        short = self.file("short.json", json.dumps(session([0x45000001, 0x45000001, JUMP], [8])))
-        ran = tool("bisect", short, "--", self.wrong_at(9), "{count}")
-        self.assertEqual(
-            ran.output.decode().splitlines(),
-            [
-                "the same at 8, and at each of the 9 counts that were looked at",
-                "none of the 8 instructions is one of these:",
-                "operations: LSL, ASR, ROR, AND, ANN, IOR, XOR, ADD, SUB, MUL, DIV, FAD, FSB, FML, FDV",
-                "branches: BMI, BEQ, BCS, BVS, BLS, BLT, BLE, BPL, BNE, BCC, BVC, BHI, BGE, BGT, BNO",
-                "memory: LDR, LDB, STR, STB",
-                "the recordings of examples/suite exercise them all (docs/testing-an-emulator.md says how to run an emulator on them)",
-            ],
-        )
-
-    def test_of_a_long_run_all_instructions_are_looked_at(self) -> None:
-        """The program of the mistakes, which does some of its instructions once, and then jumps to itself."""
-        ran = self.bisect(-1, "--to", 4_000_000)
-        self.assertEqual(
-            (ran.status, ran.output.decode().splitlines()[1:]),
-            (
-                0,
-                [
-                    "none of the 4,000,000 instructions is one of these:",
-                    "operations: LSL, ASR, ROR, AND, IOR, XOR, FAD, FSB, FML, FDV",
-                    "branches: BMI, BEQ, BCS, BVS, BLS, BLT, BLE, BPL, BCC, BVC, BHI, BGE, BGT, BNO",
-                    "memory: STR",
-                    "the recordings of examples/suite exercise them all (docs/testing-an-emulator.md says how to run an emulator on them)",
-                ],
-            ),
-        )
-
-    def test_refuses_bad_input(self) -> None:
-        session_file, say, pipe = self.built / "it.json", ("sh", "-c"), self.folder / "pipe"
-        os.mkfifo(pipe)
-        self.assert_refused(tool("bisect"), "SESSION")
-        self.assert_refused(tool("bisect", session_file), "COMMAND")
-        self.assert_refused(tool("bisect", session_file, "--", "true"), "put {count} into an argument of COMMAND")
-        self.assert_refused(tool("bisect", self.folder / "none", "--", "echo", "{count}"), "No such file")
-        self.assert_refused(tool("bisect", self.file("bad.json", "{"), "--", "echo", "{count}"), "session refused 1 json")
-        unordered = json.dumps(session([JUMP], [5, 5]))
-        self.assert_refused(tool("bisect", self.file("bad.json", unordered), "--", "echo", "{count}"), "session refused 4 order")
-        none = self.file("none.json", json.dumps(session([JUMP], [])))
-        self.assert_refused(tool("bisect", none, "--", "echo", "{count}"), "no checkpoint: give --to N")
-        self.assert_refused(tool("bisect", session_file, "--", self.folder / "none", "{count}"), "No such file")
-        for told, printed in (
-            (": ended with status 3", "exit 3"),
-            ("is not JSON", "echo {"),
-            ("is not an object", "echo []"),
-            ("is not an object", "echo 1"),
-            ("'X' is none of", 'echo "{\\"X\\": 1}"'),
-            ("H is not a whole number", 'echo "{\\"H\\": -1}"'),
-            ("R is not a list of 16 numbers", 'echo "{\\"R\\": [1]}"'),
-            ("out is not text", 'echo "{\\"out\\": \\"abc\\"}"'),
-            ("memory is a file that is not read", 'echo "{\\"memory\\": \\"/none\\"}"'),
-            ("/pipe: not a regular file", f'echo "{{\\"memory\\": \\"{pipe}\\"}}"'),
-            ("/dev/zero: not a regular file", 'echo "{\\"memory\\": \\"/dev/zero\\"}"'),
-            ("memory_sha256 is not a SHA-256", 'echo "{\\"memory_sha256\\": \\"ab\\"}"'),
-            ("the emulator and the machine differ at count 0, in H, PC", 'echo "{\\"PC\\": 1, \\"H\\": 3}"'),
-        ):
-            self.assert_refused(tool("bisect", session_file, "--", *say, f"{printed} # {{count}}"), told)
-        self.assert_refused(tool("bisect", session_file, "--seconds", 1, "--", *say, "sleep 9 # {count}"), "no answer in 1 s")
-        self.assert_refused(tool("bisect", session_file, "--", "yes", "{count}"), "yes 0: prints more than 16,777,216 bytes")
 
     def test_the_examples_have_the_same_states(self) -> None:
         recorded = self.file("keys.orsr", record((EXAMPLES / "keys.json").read_bytes()))

@@ -52,10 +52,9 @@ class BuildsTest(ToolTest):
             ("find", other, "stop"),
             ("trace", other, "--from", 0, "--to", 2),
             ("debug", other, "--batch", "-ex", "bt"),
-            ("listing", other),
             ("profile", other),
             ("executed", other),
-            ("report", other, "--text"),
+            ("report", other),
             ("diff", other, self.recording),
             ("explain", false),
         ):

@@ -16,7 +16,7 @@ from galluspa.process.cli import Refused
 from tests.programs import randomly, waiting
 from tests.tools import naivecalls
 from tests.tools.samples import JUMP, ToolTest, record, session, tool
-from tests.tools.test_trace import run_of
+from tests.tools.samples import run_of
 
 # A main program and another one take turns, each on a stack of its own: Switch swaps SP and the return address. Other's stack is above.
 COROUTINES = """
@@ -64,11 +64,6 @@ class CallsTest(ToolTest):
         run.true = range(1)
         return run, list(run.steps(run.machine(0), run.counts[-1]))
 
-    def assembled(self, source: str) -> bytes:
-        ran = tool("assemble", self.file("it.asm", source), "--symbols", self.folder / "it.sym")
-        self.assertEqual(ran.status, 0, ran.errors)
-        return record(ran.output)
-
     def assert_exact(self, text: bytes, limit: int = EACH_RISE) -> list[tuple[Call, ...]]:
         """Compares the open calls at all counts, asked for in any order, in order, and as calls end; and returns them."""
         run, steps = self.run_of(text)
@@ -94,44 +89,36 @@ class CallsTest(ToolTest):
         self.assertGreater(open_calls, 1000)
 
     def test_the_stacks_of_coroutines_have_a_limit_between_them(self) -> None:
-        text = self.assembled(COROUTINES)
+        path = self.assembled(COROUTINES)
+        text = path.read_bytes()
         limited, each_rise = self.assert_exact(text, 0x1000), self.assert_exact(text)
         more = (len(stack) - len(other) for stack, other in zip(limited, each_rise))
         count = max(enumerate(more), key=itemgetter(1))[0]
         self.assertEqual((len(limited[count]), len(each_rise[count])), (3, 1))
-        path, option = self.file("it.orsr", text), ("--stack-limit", "0x1000")
+        option = ("--stack-limit", "0x1000")
         for options, wanted in (((), each_rise[count]), (option, limited[count])):
             counts = [call.count for call in reversed(wanted)]
-            shown = json.loads(tool("state", path, "--at", count, "--stack", "--json", *options).output)
-            self.assertEqual([it["count"] for it in shown["calls"]], counts)
             traced = json.loads(tool("trace", path, "--from", count, "--steps", 1, "--calls", "--json", *options).output)
             self.assertEqual(len(traced["stack"]), len(counts) + 1)
             lines = tool("debug", path, "--batch", "-ex", f"at {count}", "-ex", "bt", *options).output.decode().splitlines()
             frames = [int(it.rpartition(" at ")[2]) for it in lines if it.startswith("#")]
             self.assertEqual(frames, [count, *counts])
-            stacks = self.folder / "stacks"
-            ran = tool("profile", path, "--from", count, "--to", count + 1, "--folded", stacks, *options)
-            self.assertEqual((ran.status, stacks.read_text().count(";")), (0, max(len(counts) - 1, 0)))
 
     def test_full_rooms_are_gone_on_from(self) -> None:
-        text = self.assembled(ENDLESS)
+        text = self.assembled(ENDLESS).read_bytes()
         with mock.patch.multiple(following, TURNS=7, FIRST_CALLS=2):
             wanted = self.assert_exact(text)
         self.assertEqual(len(wanted[-1]), 2000)
 
     def test_too_many_open_calls_are_refused(self) -> None:
-        run, _ = self.run_of(self.assembled(ENDLESS))
+        run, _ = self.run_of(self.assembled(ENDLESS).read_bytes())
         with mock.patch.multiple(following, MOST_OPEN=1024), self.assertRaisesRegex(
             Refused, "^1,024 calls are open at count 2,048"
         ):
             Calls(run).at(4000)
-        path = self.file("bare/it.orsr", record(session([0x4EE90004, 0xF7FFFFFE], [3_000_000])))
-        self.assert_refused(tool("state", path, "--stack"), "262,144 calls are open at count 524,288: more are not followed")
-        self.assert_refused(tool("profile", path), "262,144 calls are open at count 524,288: more are not followed")
 
     def test_a_run_from_a_claim_has_the_calls_since_then(self) -> None:
-        text = self.assembled(COROUTINES.replace("checkpoints 200", "checkpoints 30, 200"))
-        path = self.file("it.orsr", text)
+        path = self.assembled(COROUTINES.replace("checkpoints 200", "checkpoints 30, 200"))
         lines = tool("trace", path, "--at", 1, "--from", 30, "--to", 40, "--calls").output.decode().splitlines()
         self.assertTrue(any(it.startswith("  stack since 30: ") for it in lines), lines)
 

@@ -1,6 +1,5 @@
 """galluspa executed: counts of words, lines, branches and procedures, against a look at each instruction."""
 
-import json
 import unittest
 from array import array
 from collections import Counter
@@ -99,32 +98,19 @@ class ExecutedTest(ToolTest):
         assembled = tool("assemble", FRAMES, "--symbols", self.sym)
         self.file("suite/frames.orsr", record(assembled.output))
 
-    def test_helps_and_says_what_it_is_not(self) -> None:
-        self.assert_helps("executed")
-        for name, other in (("executed", "galluspa coverage"), ("coverage", "galluspa executed")):
-            told = " ".join(tool(name, "--help").output.decode().split())
-            self.assertIn(f"`{other}` reports", told)
-            self.assertIn("machine's instruction set", told)
-
-    def test_a_suite_is_counted_in_all_formats(self) -> None:
-        page, info = self.folder / "it.html", self.folder / "it.info"
-        ran = tool("executed", self.folder / "suite", "--page", page, "--info", info)
+    def test_a_suite_is_counted_in_both_formats(self) -> None:
+        info = self.folder / "it.info"
+        ran = tool("executed", self.folder / "suite", "--info", info)
         self.assertEqual((ran.status, len(ran.errors.splitlines())), (0, 1), ran.errors)
         lines = ran.output.decode().splitlines()
         self.assertEqual(lines[0], "1 recordings, 7,475 instructions at 80 words")
         self.assertRegex(lines[-1], r"^not executed: Main\.done \(.*frames/main\.asm:16\)$")
         self.assertIn("5 of 5 80 of 81 80 of 81 4 of 4 all", [" ".join(line.split()) for line in lines])
-        self.assertIn("Shapes.Column", page.read_text())
         text = info.read_text()
         for line in ("FN:3,Display.Dot", "FNDA:320,Display.Dot", "DA:16,0", "LF:14", "LH:9", "BRF:4", "BRH:4"):
             self.assertIn(f"\n{line}\n", text)
         self.assertEqual(run(["genhtml", "-q", "--branch-coverage", "-o", self.folder / "html", info], cwd=TOP).status, 0)
         self.assertTrue((self.folder / "html/index.html").is_file())
-        found = json.loads(tool("executed", self.folder / "suite", "--json").output)
-        self.assertEqual(
-            [it["name"] for it in found["procedures"]], ["Display.Dot", "Shapes.Row", "Shapes.Column", "Shapes.Box", "Main"]
-        )
-        self.assertEqual(sum(count for it in found["procedures"] for _, count in it["words"]), found["instructions"])
 
     def test_without_names_procedures_have_addresses(self) -> None:
         it = Run.begun(Library.find(None), (self.folder / "suite/frames.orsr").read_bytes())
@@ -137,18 +123,14 @@ class ExecutedTest(ToolTest):
         found = CodeCoverage.of(executions_of(it, 0, it.counts[-1]), parsed(b"0000011C t Main\n00000000 t Dot\n"))
         self.assertEqual([(it.procedure.name, len(it.visits)) for it in found.covered][-1], ("Main", 10))
 
-    def test_what_is_refused_is_one_line(self) -> None:
+    def test_symbols_of_another_program_are_refused(self) -> None:
         suite = self.folder / "suite"
-        (self.folder / "empty").mkdir()
-        self.assert_refused(tool("executed", self.folder / "empty"), "no recording (*.orsr) in it")
-        self.assert_refused(tool("executed", self.folder / "missing"), "not a folder")
-        self.assert_refused(tool("executed", self.file("bad/a.orsr", b"no recording").parent), "a.orsr: ", "not a recording")
         wrong = self.file("wrong.sym", "00080000 t Other\n")
         ran = tool("executed", suite, "--symbols", wrong)
         self.assertEqual((ran.status, ran.output), (2, b""))
         self.assertIn("wrong.sym names nothing that is executed", ran.errors.splitlines()[-1])
         self.assertIn("--info needs", tool("executed", suite, "--symbols", wrong, "--info", self.folder / "x").errors)
-        full = galluspa("executed", suite, "--page", "/dev/full")
+        full = galluspa("executed", suite, "--info", "/dev/full")
         self.assertEqual(
             (full.status, full.errors.splitlines()[1:]), (3, ["galluspa executed: /dev/full: No space left on device"])
         )

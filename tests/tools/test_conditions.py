@@ -17,10 +17,10 @@ from galluspa.engine.tracing import Run, Step
 from galluspa.formats import recording
 from galluspa.formats.instructions import address, is_store
 from galluspa.formats.recording import WORD
-from galluspa.output.traceformats import TextLines
+from galluspa.output.traceformats import JsonLines
 from galluspa.process.cli import Refused
-from tests.tools.samples import JUMP, ToolTest, record, session, tool
-from tests.tools.test_find import COUNTING, run_of
+from tests.tools.samples import JUMP, ToolTest, record, run_of, session, tool
+from tests.tools.test_find import COUNTING
 
 # R1 := -56; R2 := 10; R2 := R2 - 1 until it is 0; R0 := 65 is sent and stored at 400; a jump to itself.
 SENDING = (0x5100FFC8, 0x4200000A, 0x42290001, 0xE93FFFFE, 0x40000041, 0xA0100000, 0xA0200190, JUMP)
@@ -165,24 +165,8 @@ class ConditionsTest(ToolTest):
     def test_they_are_those_of_programs(self) -> None:
         """R2 := 40000H, and a loop that sends, lights, reads the devices, divides and multiplies; then random instructions."""
         loop = (
-            0x5100FFC0,
-            0x62000004,
-            0x40080041,
-            0xA0100008,
-            0xA0100004,
-            0xA0200190,
-            0xA0200000,
-            0xB0200001,
-            0x83100008,
-            0x84100018,
-            0x8510001C,
-            0x43000001,
-            0x43390001,
-            0x40000000,
-            0x40F8FFFF,
-            0x442B0007,
-            0x440A0000,
-            0xE7FFFFF0,
+            *(0x5100FFC0, 0x62000004, 0x40080041, 0xA0100008, 0xA0100004, 0xA0200190, 0xA0200000, 0xB0200001, 0x83100008),
+            *(0x84100018, 0x8510001C, 0x43000001, 0x43390001, 0x40000000, 0x40F8FFFF, 0x442B0007, 0x440A0000, 0xE7FFFFF0),
         )
         inputs = sorted(
             (at, kind, value)
@@ -198,9 +182,8 @@ class ConditionsTest(ToolTest):
         held |= self.assert_found(record(session(SENDING, [9, 40])), 40, 3)
         source = random.Random(5)
         for _ in range(3):
-            words = [
-                source.choice((0, 0x40000000, 0x80000000, 0xA0000000)) | source.getrandbits(28) & 0xF7F70FFF for _ in range(250)
-            ]
+            kinds = (0, 0x40000000, 0x80000000, 0xA0000000)
+            words = [source.choice(kinds) | source.getrandbits(28) & 0xF7F70FFF for _ in range(250)]
             words = [word & ~0x80000 if word >> 31 == 0 and word >> 18 & 3 == 3 else word for word in words]
             start = {"R": [source.getrandbits(19) for _ in range(16)], "H": 0, "PC": 0, "flags": 0, "rate": 3, "phase": 0}
             held |= self.assert_found(record({**session(words, [7, 60, 240]), "version": 2, "start": start}), 240)
@@ -209,25 +192,18 @@ class ConditionsTest(ToolTest):
         self.assertLessEqual({written for written, _ in MEANINGS} - never, held)
 
     def test_one_of_several_holds(self) -> None:
-        ran = tool("find", self.file("it.orsr", record(session(SENDING, [40]))), "R2=8", "PC=4", "sent", "--all", "--json")
+        made = self.recorded(SENDING, [40])
+        ran = tool("find", made, "R2=8", "PC=4", "sent", "--all", "--json")
         shown = [(it["count"], it["condition"]) for it in map(json.loads, ran.output.splitlines())]
         self.assertEqual(shown, [(4, "R2=8"), (22, "PC=4"), (23, "sent")])
         step = json.loads(ran.output.splitlines()[-1])
         self.assertEqual((step["sent"], step["instruction"]), ([0x41], "STR R0, R1, 0"))
 
     def test_a_dot_is_a_bit_of_its_word(self) -> None:
-        draws = (0x6D00000E, 0x4DD67F00, 0x40000005, 0xA0D00084, JUMP)
-        made = self.file("it.orsr", record(session(draws, [20])))
-        for dot, count in (
-            ("dot 32,1", 3),
-            ("dot 33,1", None),
-            ("dot 34,1", 3),
-            ("dot 35,1", None),
-            ("dot 64,1", None),
-            ("dot 32,0", None),
-        ):
-            ran = tool("find", made, "change", *dot.split())
-            self.assertEqual((ran.output.split()[:1], ran.status), ([str(count).encode()], 0) if count else ([], 1), dot)
+        made = self.recorded((0x6D00000E, 0x4DD67F00, 0x40000005, 0xA0D00084, JUMP), [20])
+        for dot, is_drawn in (("32,1", True), ("33,1", False), ("34,1", True), ("35,1", False), ("64,1", False), ("32,0", False)):
+            ran = tool("find", made, "change", "dot", dot)
+            self.assertEqual((ran.output.split()[:1], ran.status), ([b"3"], 0) if is_drawn else ([], 1), dot)
         self.assertEqual(tool("find", made, "store", "dot", "33,1").status, 0)
 
     def test_the_register_h_may_follow_a_byte_that_is_sent(self) -> None:
@@ -239,9 +215,8 @@ class ConditionsTest(ToolTest):
         for name in ("switches", "mouse", "serial"):
             taken, *rest = WRITTEN[name]
             for words in (["input", f"{name}=3"], [f"input {name} = 3"], ["input", f"{name}=0x3"]):
-                self.assertEqual(
-                    [it.text for it in conditions_of(words)], ["input", words[-1].removeprefix("input ").replace(" ", "")], words
-                )
+                found = conditions_of(words)
+                self.assertEqual([it.text for it in found], ["input", words[-1].removeprefix("input ").replace(" ", "")], words)
                 self.assertEqual([len(it.raws) for it in conditions_of(words)], [5, 1 + len(rest)], words)
             for words in (["input", name, f"{name}=3"], [f"input={name}", f"{name}=3"]):
                 self.assertEqual([it.raws for it in conditions_of(words)], [(taken,), WRITTEN[name]], words)
@@ -252,19 +227,16 @@ class ConditionsTest(ToolTest):
 
     def test_the_values_of_words(self) -> None:
         """The number at 400 is 0 before it is stored there for the first time."""
-        made = self.file("it.orsr", record(session(COUNTING, [30])))
+        made = self.recorded(COUNTING, [30])
+        self.assertEqual(tool("find", made, "--all", "Mem[000190]", "is", "not", "1..").status, 2)
         for words, counts in (
             ("400 is 0 and PC=2", []),
             ("400 is 0", [0, 1]),
             ("400 is 3 and PC=0", [9]),
             ("400 is 2..3 and store 400", [7, 10]),
-            ("Mem[000190] is not 1..", None),
             ("400 is not 1 and PC=1 PC=29", [1, 7, 10, 13, 16, 19, 22, 25, 28]),
         ):
             ran = tool("find", made, "--all", *words.split())
-            if counts is None:
-                self.assertEqual(ran.status, 2)
-                continue
             self.assertEqual([int(line.split()[0]) for line in ran.output.splitlines()], counts, words)
 
     def test_joined_conditions_that_are_refused(self) -> None:
@@ -287,12 +259,11 @@ class ConditionsTest(ToolTest):
         with self.assertRaisesRegex(Refused, "more than 64"):
             conditions_of(["input and PC=1"] * 7)
 
-    def test_there_are_no_more_than_the_library_takes(self) -> None:
         conditions_of(["sent"] * 64)
         conditions_of(["input"] * 12)
-        for words in (["sent"] * 65, ["input"] * 13):
+        for joined in (["sent"] * 65, ["input"] * 13):
             with self.assertRaisesRegex(Refused, "more than 64 conditions"):
-                conditions_of(words)
+                conditions_of(joined)
 
 
 class HitsTest(ToolTest):
@@ -353,7 +324,7 @@ class HitsTest(ToolTest):
 
     def test_what_is_printed_is_what_a_trace_shows(self) -> None:
         """As text and as JSON, by segments side by side and one at a time."""
-        made = self.file("it.orsr", record(session(COUNTING, [900, 1000, 3000], [(at, "key", 65) for at in range(5, 3000, 100)])))
+        made = self.recorded(COUNTING, [900, 1000, 3000], [(at, "key", 65) for at in range(5, 3000, 100)])
         sym = self.file("names.sym", "0 t Start\n4 t Store\n190 d Number\n")
         choices: Sequence[Sequence[object]] = ([], ["--symbols", sym])
         for jobs in (1, 3):
@@ -367,7 +338,7 @@ class HitsTest(ToolTest):
             self.assertEqual(shown, lines)
 
     def test_hits_that_are_dense_take_microseconds(self) -> None:
-        run, lines = run_of(record(session(COUNTING, [200_000]))), TextLines().lines
+        run, line = run_of(record(session(COUNTING, [200_000]))), JsonLines().line
         with self.takes_at_most(3):
             hits = Search(run, conditions_of(["PC=1"]), 0, 200_000).all(50_000)
-            self.assertEqual(sum(len(lines(hit.raw)) > 0 for hit in hits), 50_000)
+            self.assertEqual(sum(len(line(hit.raw)) > 0 for hit in hits), 50_000)

@@ -17,8 +17,7 @@ from galluspa.process.cli import Refused
 from tests.programs import randomly
 from tests.tools.drawnexpressions import WORD, Drawn, condition, expression
 from tests.tools.independent import RAM, Independent
-from tests.tools.samples import PROGRAM, ToolTest, record
-from tests.tools.test_find import run_of
+from tests.tools.samples import PROGRAM, ToolTest, record, run_of
 
 # The number of programs, of sessions of each, and of commands of a session at least and at most: 2,048 sessions, which take some 70 seconds
 # of a processor.

@@ -1,42 +1,30 @@
 """galluspa diff: the first input, checkpoint and part in which two recordings differ."""
 
 import json
-from pathlib import Path
 from typing import Any
 
 from galluspa.formats.recording import Event, page_of
-from tests.tools.samples import EXAMPLES, JUMP, STORED, Ran, ToolTest, claim, encoded, in_register, record, session, tool
+from tests.tools.samples import EXAMPLES, JUMP, ToolTest, claim, encoded, in_register, record, session
 
 WORDS = page_of(0x45000001, 0xE7FFFFFE)
 
 
 class DiffTest(ToolTest):
-    def diff(self, one: bytes, other: bytes) -> Ran:
-        """Returns what the tool says of two recordings."""
-        return tool("diff", self.file("a.orsr", one), self.file("b.orsr", other))
-
     def rows(self, one: bytes, other: bytes) -> list[list[str]]:
         """Returns the rows that it prints of two that differ, each as its cells."""
-        ran = self.diff(one, other)
-        self.assertEqual((ran.errors, ran.status), ("", 1))
-        head, *rows = ran.output.decode().splitlines()
+        head, *rows = self.lines_of("diff", self.file("a.orsr", one), self.file("b.orsr", other), status=1)
         self.assertEqual(head.split(), [f"{self.folder}/a.orsr", f"{self.folder}/b.orsr"])
         width = head.index(str(self.folder)), head.rindex(str(self.folder))
         return [[line[: width[0]].strip(), line[width[0] : width[1]].strip(), line[width[1] :]] for line in rows]
 
-    def test_helps(self) -> None:
-        self.assert_helps("diff")
-
     def test_what_is_the_same_is_so_in_any_version(self) -> None:
         face, other = (EXAMPLES / name for name in ("face.orsr", "face-version-1.orsr"))
-        ran = tool("diff", face, other)
-        self.assertEqual(
-            (ran.output, ran.errors, ran.status), (b"the same: 0 inputs, and 4 checkpoints after the initial state\n", "", 0)
-        )
+        told = ["the same: 0 inputs, and 4 checkpoints after the initial state"]
+        self.assertEqual(self.lines_of("diff", face, other), told)
         # The same pages, in another order and with one that nothing names.
         pool, tables = [page_of(JUMP), page_of(1), page_of(2)], ({0: 1, 5: 2}, {0: 3, 5: 2})
         one, another = encoded(2, pool[:2], [claim(0, tables[0])]), encoded(2, pool[::-1], [claim(0, tables[1])])
-        self.assertEqual(self.diff(one, another).status, 0)
+        self.lines_of("diff", self.file("a.orsr", one), self.file("b.orsr", another))
 
     def test_the_first_input_that_differs(self) -> None:
         def of(*inputs: tuple) -> bytes:
@@ -90,13 +78,6 @@ class DiffTest(ToolTest):
         keys = json.loads((EXAMPLES / "keys.json").read_text())
         other = {**keys, "start": {**keys["start"], "H": 3}}
         self.assertEqual(self.rows(record(keys), record(other))[0], ["checkpoint 0", "at 0", "at 0"])
-
-    def test_refuses_bad_input(self) -> None:
-        stored, short = self.file("stored.orsr", STORED), self.file("short.orsr", STORED[:-1])
-        self.assert_refused(tool("diff", stored), "B")
-        for pair in ((stored, short), (short, stored)):
-            self.assert_refused(tool("diff", *pair), "short.orsr: refused 1 short at byte 9503")
-        self.assert_refused(tool("diff", stored, Path("/none")), "No such file")
 
     def test_many_inputs_and_checkpoints_take_no_minutes(self) -> None:
         events = [Event(at, 3, at & 1) for at in range(1_000_000)]

@@ -9,7 +9,7 @@ from galluspa.assembler.assembly import SUGGESTIONS, assembled
 from galluspa.assembler import statements
 from galluspa.assembler.statements import statement_of
 from galluspa.assembler.tokens import Token, tokens_of
-from galluspa.formats.otherassemblers import alike_of, are_alike
+from galluspa.formats.alike import alike_of, are_alike
 from galluspa.formats.sessionfaults import TOKEN, parsed
 from tests.tools.samples import calls_of
 

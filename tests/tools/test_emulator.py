@@ -12,29 +12,25 @@ from tests.tools.samples import EXAMPLES, PROGRAM, TOP, Ran, ToolTest, run, tool
 NAMES = ("emulator", "emulator-recorded")
 LIBRARY = next((path for path in (TOP / "crates/galluspa/out/libgalluspa.a", TOP / "out/lib/libgalluspa.a") if path.exists()), None)
 STEPS = 416666
+FLAGS = ("-O2", "-Wall", "-Wextra", "-Werror", "-Wno-unused-function", "-Wno-unused-result")
 
 
 def compiled(folder: Path, name: str) -> Path:
     """Returns an emulator, compiled without a warning."""
     program = folder / name
-    library = [LIBRARY] if "recorded" in name else []
-    flags = ["-O2", "-Wall", "-Wextra", "-Werror", "-Wno-unused-function", "-Wno-unused-result"]
-    command = [
-        str(it)
-        for it in ("cc", *flags, f"-I{TOP}/reference", f"-I{TOP}/include", EXAMPLES / f"c/{name}.c", *library, "-o", program)
-    ]
-    subprocess.run(command, check=True)
+    sources = [EXAMPLES / f"c/{name}.c", *([LIBRARY] if LIBRARY and "recorded" in name else [])]
+    subprocess.run(["cc", *FLAGS, f"-I{TOP}/reference", f"-I{TOP}/include", *sources, "-o", program], check=True)
     return program
 
 
 class EmulatorTest(ToolTest):
     plain: Path
-    recorded: Path
+    recorder: Path
 
     @classmethod
     def setUpClass(cls) -> None:
         folder = Path(cls.enterClassContext(tempfile.TemporaryDirectory()))
-        cls.plain, cls.recorded = (compiled(folder, name) for name in NAMES)
+        cls.plain, cls.recorder = (compiled(folder, name) for name in NAMES)
 
     def image(self, source: str) -> Path:
         """Returns the memory image of a source."""
@@ -45,7 +41,7 @@ class EmulatorTest(ToolTest):
     def record(self, image: Path, frames: int, keys: bytes = b"") -> tuple[Ran, recording.Recording]:
         """Returns what the emulator with the recorder shows in a number of frames, and its recording, which is accepted."""
         made = self.folder / "it.orsr"
-        ran = run([self.recorded, image, frames, made], keys)
+        ran = run([self.recorder, image, frames, made], keys)
         self.assertTrue(run([PROGRAM], made.read_bytes()).output.startswith(b"accepted "))
         return ran, recording.read(made.read_bytes())
 
@@ -99,6 +95,6 @@ class EmulatorTest(ToolTest):
         self.assertEqual(read.checkpoints[-1].output, ran.output)
 
     def test_refuses_a_missing_image(self) -> None:
-        for program in (self.plain, self.recorded):
-            ran = run([program, self.folder / "none", 1, self.folder / "it.orsr"][: 3 if program == self.plain else 4])
+        for command in ([self.plain], [self.recorder, self.folder / "it.orsr"]):
+            ran = run([command[0], self.folder / "none", 1, *command[1:]])
             self.assertEqual((ran.status, ran.errors), (3, f"{self.folder}/none: No such file or directory\n"))

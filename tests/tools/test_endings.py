@@ -7,23 +7,7 @@ from random import Random
 from unittest import mock
 
 from galluspa.analysis import endings
-from galluspa.assembler.encoding import (
-    ADD,
-    ALWAYS,
-    DEVICES,
-    IOR,
-    MOV,
-    NE,
-    SUB,
-    TIMER,
-    U,
-    XOR,
-    branch,
-    imm,
-    load,
-    reg,
-    store,
-)
+from galluspa.assembler.encoding import ADD, ALWAYS, DEVICES, IOR, MOV, NE, SUB, TIMER, XOR, U, branch, imm, load, reg, store
 from galluspa.engine.library import Library
 from galluspa.engine.program import Program
 from galluspa.formats.instructions import address, is_store
@@ -85,20 +69,8 @@ def states_of(run: Recording) -> list[int]:
         if table not in memories:
             memories[table] = tuple((slot, run.page(page)) for slot, page in enumerate(it.table) if page)
         timer = None if it.rate else it.timer
-        state = (
-            it.registers,
-            it.h,
-            it.pc,
-            it.flags,
-            it.stop,
-            it.switches,
-            it.leds,
-            it.mouse,
-            it.serial,
-            it.keys,
-            timer,
-            memories[table],
-        )
+        processor = it.registers, it.h, it.pc, it.flags, it.stop
+        state = *processor, it.switches, it.leds, it.mouse, it.serial, it.keys, timer, memories[table]
         return numbers.setdefault(state, len(numbers))
 
     return [number(it) for it in run.checkpoints]

@@ -1,14 +1,8 @@
-"""galluspa explain: what differs if a claim is false, and the fields of refused files; both in the report."""
+"""galluspa explain: what differs if a claim is false, and the fields of refused files."""
 
-import base64
-import io
-import os
 import re
 import struct
 from dataclasses import replace
-from typing import Any
-
-from PIL import Image
 
 from galluspa.analysis.explanation import FINDS_IT, FalseClaim, explain_false, plain
 from galluspa.engine.library import Library
@@ -35,11 +29,26 @@ from tests.tools.samples import (
 )
 
 CHANGE = re.compile(r"^\| ((?:byte \d+ is [0-9a-f]{2}(?:, )?)+)[^|]*\| `(refused [^`]+)` \|$", re.MULTILINE)
-PART = re.compile(rb'class="large" src="data:image/png;base64,([^"]+)"')
 BYTE = re.compile(r"byte (\d+) is ([0-9a-f]{2})")
 
 # R0 := 5, then 40 instructions that write nothing, then R0 := 6; 65 to the serial line; Mem[400] := 6; a jump to itself.
 WORDS = (0x40000005, *[0xEF000000] * 40, 0x40000006, 0x5100FFC8, 0xA0100000, 0xA0200190, JUMP)
+
+
+# What is said of three parts that differ.
+ALL_PARTS = """\
+false checkpoint 1 at 43 part R0
+
+       claimed   the machine
+R0     00000005  00000006
+flags  -Z--      N---
+LEDs   07        00
+
+The last instructions before count 43 that wrote R0:
+         0       0  40000005  MOV R0, 5               R0 00000000 → 00000005
+        41      41  40000006  MOV R0, 6               R0 00000005 → 00000006
+
+R0 had the claimed value at 41 of the counts 0 to 143: last at 41, 2 before."""
 
 
 class Ending(Limit):
@@ -75,31 +84,12 @@ class ExplainTest(ToolTest):
             text = tool("claim", self.file("it.orsr", text), "--at", at, "--set", claim).output
         return text
 
-    def test_helps(self) -> None:
-        self.assert_helps("explain")
-
     def test_an_accepted_recording_has_its_line(self) -> None:
         self.assertEqual(self.explained(STORED), ["accepted 1 checkpoints 100 steps"])
 
     def test_all_parts_that_differ_are_told(self) -> None:
         text = self.claiming(record(session(WORDS, [43, 60])), 1, "R0=5", "flags=4", "LEDs=7")
-        self.assertEqual(
-            self.explained(text),
-            [
-                "false checkpoint 1 at 43 part R0",
-                "",
-                "       claimed   the machine",
-                "R0     00000005  00000006",
-                "flags  -Z--      N---",
-                "LEDs   07        00",
-                "",
-                "The last instructions before count 43 that wrote R0:",
-                "         0       0  40000005  MOV R0, 5               R0 00000000 → 00000005",
-                "        41      41  40000006  MOV R0, 6               R0 00000005 → 00000006",
-                "",
-                "R0 had the claimed value at 41 of the counts 0 to 143: last at 41, 2 before.",
-            ],
-        )
+        self.assertEqual("\n".join(self.explained(text)), ALL_PARTS)
 
     def test_the_stretch_and_the_command_that_finds_the_instruction_are_told(self) -> None:
         """The command is copied, with an emulator that gets R0 wrong from the sixth of the program's seven additions on."""
@@ -107,14 +97,9 @@ class ExplainTest(ToolTest):
         path = self.file("it's.orsr", text)
         *_, told, finds, command = tool("explain", path).output.decode().splitlines()
         self.assertEqual((told, finds), ("Yours went wrong between 4 and 9: checkpoint 1 is true.", FINDS_IT))
-        wrong = self.file(
-            "wrong", '#!/bin/sh\necho "{\\"R\\": [$(($1 < 6 ? $1 : $1 < 7 ? 7 : 8)), 0,0,0,0,0,0,0,0,0,0,0,0,0,0,0]}"\n'
-        )
-        wrong.chmod(0o755)
+        wrong = self.executable("wrong", 'echo "{\\"R\\": [$(($1 < 6 ? $1 : $1 < 7 ? 7 : 8)), 0,0,0,0,0,0,0,0,0,0,0,0,0,0,0]}"')
         ran = run(["sh", "-c", command.replace("COMMAND", str(wrong)).replace("galluspa", str(GALLUSPA), 1)])
-        self.assertEqual(
-            ran.output.decode().splitlines()[0], "differs after instruction 5: the same at 5, not at 6, found by 3 runs"
-        )
+        self.assertTrue(ran.output.startswith(b"differs after instruction 5: the same at 5, not at 6, found by 3 runs\n"), ran)
 
     def test_twenty_thousand_instructions_take_seconds(self) -> None:
         text = self.claiming(record(session((0x40080001, 0xE7FFFFFE), [60000])), 1, "R0=20007")
@@ -128,16 +113,8 @@ class ExplainTest(ToolTest):
         made[first : first + 4] = struct.pack("<I", 7)
         made[first + 8 : first + 12] = struct.pack("<I", 8)
         lines = self.explained(bytes(made))
-        self.assertEqual(
-            lines[:5],
-            [
-                "false checkpoint 1 at 60 part page 0",
-                "",
-                "             claimed   the machine",
-                "Mem[000190]  00000007  00000006",
-                "Mem[000198]  00000008  00000000",
-            ],
-        )
+        self.assertEqual(lines[0], "false checkpoint 1 at 60 part page 0")
+        self.assertEqual(lines[3:5], ["Mem[000190]  00000007  00000006", "Mem[000198]  00000008  00000000"])
         self.assertIn("The last instructions before count 60 that wrote Mem[000190]:", lines)
         self.assertIn("        44      44  A0200190  STR R0, R2, 400         Mem[000190] 00000000 → 00000006", lines)
         self.assertIn("Mem[000190] had the claimed value at none of the counts 0 to 160.", lines)
@@ -147,14 +124,8 @@ class ExplainTest(ToolTest):
         made = record((EXAMPLES / "hello.json").read_bytes())
         lines = self.explained(made[:-13] + b"Help!!" + made[-7:])
         self.assertEqual(lines[0], "false checkpoint 1 at 30 part out")
-        self.assertEqual(
-            lines[3:6],
-            [
-                "out: claimed are 6 bytes, the machine sent 6; they differ from byte 3 on",
-                "claimed",
-                "00000003  70 21 21                                         p!!",
-            ],
-        )
+        self.assertEqual(lines[3], "out: claimed are 6 bytes, the machine sent 6; they differ from byte 3 on")
+        self.assertIn("00000003  70 21 21                                         p!!", lines)
         self.assertIn("00000003  6c 6f 2c                                         lo,", lines)
 
     def test_screens_are_told(self) -> None:
@@ -168,20 +139,9 @@ class ExplainTest(ToolTest):
         self.assertEqual(lines[0], "false checkpoint 2 at 8000000 part page 955")
         self.assertIn("The screen: 2 dots differ, at x 576 to 577 and y 219, counted from the left and from below.", lines)
         self.assertTrue(any("++" in line and "--" in line.split()[-1] for line in lines))
-        self.assertIn(
-            "None of the 20 instructions before count 8000000 wrote Mem[0EECC8]. The last one before them that wrote it:", lines
-        )
+        none = "None of the 20 instructions before count 8000000 wrote Mem[0EECC8]. The last one before them that wrote it:"
+        self.assertIn(none, lines)
         self.assertTrue(any("  4838732      41  A6D00000  STR R6, R13, 0" in line for line in lines))
-        ran = tool("report", self.file("false.orsr", bytes(made)))
-        self.assertEqual((ran.errors, ran.status), ("", 1))
-        self.assertIn(b"2 dots differ, at x 576 to 577 and y 219", ran.output)
-        claimed, defined, marked = (Image.open(io.BytesIO(base64.b64decode(it))) for it in PART.findall(ran.output))
-        # Eight dots are shown around the two.
-        self.assertEqual({it.size for it in (claimed, defined, marked)}, {(18, 17)})
-        dots = [[it.convert("RGB").getpixel((x, 8)) for x in (8, 9)] for it in (claimed, defined, marked)]
-        self.assertEqual(dots, [[(0, 0, 0)] * 2, [(255, 255, 255)] * 2, [GONE] * 2])
-        counted: Any = marked.convert("RGB").getcolors()
-        self.assertEqual({shown: many for many, shown in counted}.get(SET), None)
 
     def test_marks_are_seen_on_white_and_on_black(self) -> None:
         """By the contrast that the guidelines for web pages want of pictures, 3 to 1; the two are told apart without red, too."""
@@ -216,20 +176,10 @@ class ExplainTest(ToolTest):
             last = f"The last one before them that {did} it:" if did else "The one before them, found by bisection, set it:"
             self.assertIn(f"{none} Since checkpoint 0 none {did} it." if count is None else f"{none} {last}", lines)
             also = ["it", "1"] if part == "R5" else []
-            self.assertEqual(
-                [line.split()[0] for line in lines[6:-2] if "input" not in line], [str(count), *also] if count else [], part
-            )
+            shown = [line.split()[0] for line in lines[6:-2] if "input" not in line]
+            self.assertEqual(shown, [str(count), *also] if count else [], part)
         lines = self.explained(self.claiming(made, 2, "R5=9"), "--steps", 9)
         self.assertIn("None of the 9 instructions before count 60000 wrote R5. Since checkpoint 1 none wrote it.", lines)
-
-    def test_the_report_does_without_a_library(self) -> None:
-        command = [GALLUSPA, "report", self.file("false.orsr", rejoining(9))]
-        ran = run(command, env={**os.environ, "GALLUSPA_LIBRARY": str(self.folder / "none")})
-        self.assertEqual((ran.errors, ran.status), ("", 1))
-        self.assertNotIn(b"What is false about checkpoint", ran.output)
-        self.assertIn(b"<code>examples/c/install</code>", ran.output)
-        self.assertIn(b"What is false about checkpoint 1", run(command).output)
-        self.assert_refused(run([*command, "--library", self.folder / "none"]), "no library at")
 
     def test_what_an_earlier_checkpoint_claims_is_told(self) -> None:
         text = self.claiming(record(session(WORDS, [10, 30, 43])), 3, "R0=5")
@@ -253,11 +203,8 @@ class ExplainTest(ToolTest):
         lines = list(plain(explained(3), "it.orsr"))
         self.assertIn("R0  00000005  00000006", lines)
         self.assertIn("The last instructions before count 3072 that wrote R0:", lines)
-        self.assertIn(
-            "R0 had the claimed value at 41 of the counts 0 to 3072: last at 41, 4,959 before. "
-            "There was no answer: not all was looked at (--limit).",
-            lines,
-        )
+        told = "R0 had the claimed value at 41 of the counts 0 to 3072: last at 41, 4,959 before. There was no answer"
+        self.assertIn(f"{told}: not all was looked at (--limit).", lines)
         self.assertNotIn("(--limit)", "\n".join(plain(explained(1000), "it.orsr")))
         with self.assertRaisesRegex(TimeIsUp, "no answer: the machine came to count 0"):
             explained(0)
@@ -325,10 +272,3 @@ class ExplainTest(ToolTest):
                         self.assertTrue(explain_fault(made, *answer.fault).rule)
                         refused += 1
         self.assertGreater(refused, 60)
-
-    def test_refuses_bad_input(self) -> None:
-        self.assert_refused(tool("explain"), "FILE")
-        self.assert_refused(tool("explain", self.folder / "none"), "No such file")
-        stored = self.file("false.orsr", rejoining(9))
-        self.assert_refused(tool("explain", stored, "--library", self.folder / "none"), "no library at")
-        self.assert_refused(tool("explain", stored, "--steps", 0), "'0' is not a whole number")

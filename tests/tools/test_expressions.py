@@ -1,12 +1,11 @@
 """The grammar of expressions and conditions: values, searches and mistakes."""
 
 import random
-import time
 from dataclasses import replace
 
 from galluspa.analysis.addresses import moment_of
 from galluspa.analysis.conditions import conditions_of
-from galluspa.analysis.expressions import constant, value_at
+from galluspa.analysis.expressions import value_at
 from galluspa.analysis.expressiontexts import Parser, literal
 from galluspa.analysis.search import Search
 from galluspa.engine.tracing import Run
@@ -15,12 +14,30 @@ from galluspa.process.cli import Refused
 from tests.programs import randomly
 from tests.tools.drawnexpressions import WORD, condition, expression
 from tests.tools.independent import Independent
-from tests.tools.samples import ToolTest, record, tool
-from tests.tools.test_find import run_of
+from tests.tools.samples import ToolTest, record, run_of, tool
 
 NAMES = parsed(
     b"38 40 t Edit.Key\n80 t Edit.Key.next\n1000 4 d Edit.len\n1004 1 d Edit.flag\n1007 1 d Edit.byte\n1100 40 d Edit.buf\n50 a SIZE\n"
     b"2000 d Two\n3000 d Two\n90 t a-b\n2004 4 d R5\n"
+)
+MISTAKES = (
+    ("R0 / 4", "R0 ^/ 4: expected + - * & | << >>, a comparison"),
+    ("R0 + ", "R0 + ^: expected a number (16, 0x10 or 10H), a register, a name"),
+    ("R0 = 3", "R0 ^= 3: == compares; NAME=VALUE"),
+    ("(R0 + 3", "(R0 + 3^: expected )"),
+    ("Mem[R0", "Mem[R0^: expected ]"),
+    ("Mem[0x100000]", "100000 is no address of memory"),
+    ("Edit.lem", "^Edit.lem: no symbol is called Edit.lem: did you mean Edit.len?"),
+    ("Two", "Two stands for 2 addresses, 0x2000, 0x3000"),
+    ("E7F00", "^E7F00: write 0xE7F00: numbers are decimal"),
+    ("4294967296", "^4294967296: a number is below 2^32"),
+    ("12ab", "^12ab: expected a number"),
+    ("Edit.flag", "Edit.flag is no whole word: write Mem[Edit.flag] & 0xFF for its byte"),
+    ("Edit.byte", "write Mem[Edit.byte] >> 24 & 0xFF"),
+    ("R0 R1", "R0 ^R1: expected + - *"),
+    ("R0 == 3 == 4", "R0 == 3 ^== 4: expected"),
+    ("and", "^and: expected a number"),
+    ("", "nothing: expected a number"),
 )
 
 
@@ -103,87 +120,19 @@ class ExpressionsTest(ToolTest):
         self.assertEqual((value("Edit.len + 8", True), value("Edit.flag", True)), (0x1008, 0x1004))
 
     def test_numbers(self) -> None:
-        for text, wanted in (
-            ("16", 16),
-            ("0x10", 16),
-            ("10H", 16),
-            ("0ffh", 255),
-            (" 7 ", 7),
-            ("FFH", None),
-            ("1A", None),
-            ("", None),
-        ):
+        rows = (("16", 16), ("0x10", 16), ("10H", 16), ("0ffh", 255), (" 7 ", 7), ("FFH", None), ("1A", None), ("", None))
+        for text, wanted in rows:
             self.assertEqual(literal(text), wanted, text)
         self.assertIsNone(literal("9" * 5000))
 
     def test_mistakes_name_their_place(self) -> None:
-        for text, told in (
-            ("R0 / 4", "R0 ^/ 4: expected + - * & | << >>, a comparison"),
-            ("R0 + ", "R0 + ^: expected a number (16, 0x10 or 10H), a register, a name"),
-            ("R0 = 3", "R0 ^= 3: == compares; NAME=VALUE"),
-            ("(R0 + 3", "(R0 + 3^: expected )"),
-            ("Mem[R0", "Mem[R0^: expected ]"),
-            ("Mem[0x100000]", "100000 is no address of memory"),
-            ("Edit.lem", "^Edit.lem: no symbol is called Edit.lem: did you mean Edit.len?"),
-            ("Two", "Two stands for 2 addresses, 0x2000, 0x3000"),
-            ("E7F00", "^E7F00: write 0xE7F00: numbers are decimal"),
-            ("4294967296", "^4294967296: a number is below 2^32"),
-            ("12ab", "^12ab: expected a number"),
-            ("Edit.flag", "Edit.flag is no whole word: write Mem[Edit.flag] & 0xFF for its byte"),
-            ("Edit.byte", "write Mem[Edit.byte] >> 24 & 0xFF"),
-            ("R0 R1", "R0 ^R1: expected + - *"),
-            ("R0 == 3 == 4", "R0 == 3 ^== 4: expected"),
-            ("and", "^and: expected a number"),
-            ("", "nothing: expected a number"),
-        ):
+        for text, told in MISTAKES:
             with self.assertRaises(Refused) as raised:
                 Parser(text, NAMES).whole()
             self.assertIn(told, f"{raised.exception}")
 
-    def test_hostile_expressions_end_at_once(self) -> None:
-        deep = (
-            "(" * 2**20,
-            "[" * 2**20,
-            "-" * 900,
-            "not " * 200,
-            "Mem[" * 200,
-            "*" * 900,
-            "1+" * 2**20,
-            "9" * 2**20,
-            "R0 == " * 10**5,
-        )
-        wide = (
-            " and ".join(["(R0 == 1 or R1 == 2)"] * 70),
-            "a" * 2**20,
-            "\0" * 999,
-            "\u202e" * 999,
-            "1 << 99999999999",
-            "<" * 999,
-            "&" * 999,
-        )
-        for text in (*deep, *wide):
-            for read in (
-                lambda: Parser(text, NAMES).whole(),
-                lambda: conditions_of([text], NAMES),
-                lambda: conditions_of(text.split(), NAMES),
-            ):
-                start = time.process_time()
-                with self.assertRaises(Refused) as raised:
-                    value = read()
-                    self.fail(f"{text[:20]!r} is {value!r}"[:200])
-                self.assertLess(time.process_time() - start, 1, text[:20])
-                self.assertLess(len(f"{raised.exception}"), 2000, text[:20])
-        start = time.process_time()
-        self.assertEqual(constant(Parser("1 << 4294967295 << 31 >> 4294967295").whole()), 0)
-        for words in (["1", "*", "99999999"] * 5000, ["R0", "is"] * 9000, ["PC=1", "and"] * 9000, ["or"] * 9000):
-            with self.assertRaises(Refused):
-                conditions_of(words)
-        self.assertLess(time.process_time() - start, 5)
-
-    def test_a_tool_says_it_in_one_line(self) -> None:
+    def test_a_search_takes_them(self) -> None:
         made = self.file("it.orsr", record(replace(randomly.case(2).session, checkpoints=[10]).text().encode()))
-        for words in (["R0 == ("], ["R0 == R1"], ["(" * 10_000], ["PC=1 and Mem[R0 == 3"], ["R0 ==", "nix"], ["3 > 4"]):
-            self.assert_refused(tool("find", made, *words))
         for words, counts in (
             (["PC=0-0x3FFFFF", "and", "R0 == R0"], 10),
             (["PC", ">=", "0"], 10),

@@ -10,20 +10,15 @@ import tempfile
 import time
 from concurrent.futures import ThreadPoolExecutor
 from pathlib import Path
-from xml.etree import ElementTree
 
-from galluspa.analysis.coverage import Coverage
-from galluspa.emulators.fuzzing import Tally, measure
-from galluspa.emulators import instructionrules
 from galluspa.emulators.randomtrials import trials
 from galluspa.engine.library import Library
 from galluspa.formats import recording
-from tests.tools import browser
+from tests.tools.console import ENVIRONMENT, commands_of
 from tests.tools.mistakes import DECODED, FREQUENT, RIGHT, Mistake
 from tests.tools.samples import EXAMPLES, GALLUSPA, PATIENCE, PROGRAM, TOP, Ran, ToolTest, on_terminal, run, tool, until
-from tests.tools.test_documents import ENVIRONMENT, commands_of
 
-FILES = ["difference.html", "difference.txt", "recording.orsr", "session.json", "source.asm"]
+FILES = ["difference.txt", "recording.orsr", "session.json", "source.asm"]
 
 
 def compiled(folder: Path, mistake: Mistake) -> Path:
@@ -56,18 +51,12 @@ class FuzzTest(ToolTest):
             "fuzz", "--seconds", seconds, "-j", 2, "-o", self.folder / "found", *words, "--", self.built / name / "emulator-tested"
         )
 
-    def test_helps(self) -> None:
-        self.assert_helps("fuzz")
-
     def test_a_right_emulator_is_the_same(self) -> None:
         """Fast enough for 100,000 sessions a minute on four processors."""
         with self.takes_at_most(9):
             ran = self.fuzz(RIGHT.name, "--sessions", 3000)
         self.assertEqual((ran.errors, ran.status), ("", 0))
-        lines = ran.output.decode().splitlines()
-        self.assertRegex(lines[0], r"^seed \d+: 3,000 sessions, [\d,]+ instructions in \d+ s, no difference$")
-        self.assertRegex(lines[1], r"^exercised, as 18\d of these sessions were measured:$")
-        self.assertTrue(any(line.startswith("operations ") for line in lines))
+        self.assertRegex(ran.output.decode(), r"^seed \d+: 3,000 sessions, [\d,]+ instructions in \d+ s, no difference\n$")
         self.assertFalse((self.folder / "found").exists())
 
     def test_each_frequent_mistake_is_found_and_made_small(self) -> None:
@@ -115,14 +104,11 @@ class FuzzTest(ToolTest):
         self.assertEqual(sorted(it.name for it in folder.iterdir()), FILES)
         text = ran.output.decode()
         self.assertTrue(text.startswith((folder / "difference.txt").read_text()))
-        self.assertIn("docs/machine.md says:\n  B − C1 − cin, modulo 2^32\n", text)
         self.assertRegex(text, r"flags +[NZCV-]{4} +[NZ-]{2}C[V-] +[NZ-]{2}-[V-]\n")
         recorded = (folder / "recording.orsr").read_bytes()
         self.assertEqual(run([PROGRAM], recorded).output, b"accepted 1 checkpoints 1 steps\n")
         self.assertEqual(run([PROGRAM, "record"], (folder / "session.json").read_bytes()).output, recorded)
         self.assertEqual(tool("assemble", folder / "source.asm", "--words").status, 0)
-        listed = tool("listing", folder / "recording.orsr", "--source", "--words", 1).output.decode()
-        self.assertIn(listed, (folder / "source.asm").read_text())
         command = [self.built / name / "state", folder / "recording.orsr", "{count}", self.folder / "memory.bin"]
         ran = tool("bisect", folder / "session.json", "--", *command)
         self.assertTrue(ran.output.startswith(b"differs after instruction 0: "), ran)
@@ -146,18 +132,6 @@ class FuzzTest(ToolTest):
         self.assertRegex(
             ran.output.decode(), r"^LD[RB] R\d+, R\d+, -?\d+ differs in flags\n1 instruction, 0 inputs; session \d+ of seed 4\n"
         )
-
-    def test_tap_and_junit(self) -> None:
-        ran = self.fuzz("N and Z after loads", "--seed", 3, "--tap", "--junit", self.folder / "it.xml", "--most", 2)
-        self.assertEqual((ran.errors, ran.status), ("", 1))
-        lines = ran.output.decode().splitlines()
-        self.assertEqual(lines[:2], ["TAP version 13", "1..37"])
-        self.assertEqual([it for it in lines if it.startswith("not ok")], ["not ok 17 - LDR", "not ok 18 - LDB"])
-        self.assertTrue(any(it.startswith("ok 1 - MOV") for it in lines))
-        tests = ElementTree.parse(self.folder / "it.xml").getroot()[0]
-        self.assertEqual((tests.get("tests"), tests.get("failures")), ("37", "2"))
-        failed = [test.get("name") for test in tests.iter("testcase") if test.find("failure") is not None]
-        self.assertEqual(failed, ["LDR", "LDB"])
 
     def test_a_part_is_left_out(self) -> None:
         ran = self.fuzz("N and Z after loads", "--ignore", "flags", "--ignore", "PC", "--seed", 3, "--sessions", 64)
@@ -257,42 +231,9 @@ class FuzzTest(ToolTest):
         told = on_terminal("fuzz", "--sessions", 600, "-j", 1, "--", self.built / RIGHT.name / "emulator-tested")
         self.assertIn(b" sessions a second", told)
 
-    def test_the_page(self) -> None:
-        self.fuzz("the queue of keys", "--seed", 1)
-        (folder,) = (self.folder / "found").iterdir()
-        with browser.browser() as running, running.page(folder / "difference.html") as opened:
-            self.assertEqual(opened.errors, [])
-            self.assertTrue(all(url.startswith(("file:", "data:")) for url in opened.requests), opened.requests)
-            headline = opened.answer("document.querySelector('h1').innerText")
-            self.assertEqual(headline, (folder / "difference.txt").read_text().splitlines()[0])
-            self.assertGreater(opened.answer("document.querySelectorAll('tr.wrong').length"), 0)
-            for width in browser.WIDTHS:
-                opened.resize(width, 1000)
-                self.assertEqual(opened.answer("document.documentElement.scrollWidth > innerWidth"), False)
-
 
 class ProgramsTest(ToolTest):
-    def test_they_exercise_what_the_suite_does(self) -> None:
-        """Of the sessions of a seed, those that are measured in half a minute exercise nearly all."""
-        tally, library = Tally(), Library.find(None)
-        for batch in range(12):
-            for trial in trials(1, batch):
-                measure(library, trial, "seed 1", tally)
-        seen: Coverage = tally.seen
-        self.assertGreater(sum(times > 0 for times in seen.times.values()), 930)
-
     def test_they_are_lawful_sessions(self) -> None:
         library = Library.find(None)
         for trial in list(trials(3, 0))[:64]:
             self.assertEqual(recording.read(library.record(trial.session().text().encode())).checkpoints[-1].count, trial.count)
-
-    def test_the_rules_are_those_of_the_document(self) -> None:
-        document = " ".join((TOP / "docs/machine.md").read_text().split())
-        words = [op << 16 | bits << 28 for op in range(16) for bits in range(8)]
-        words += [0x80000000 | bits << 28 for bits in range(4)]
-        words += [0xC0000000 | bits << 28 | condition << 24 for bits in range(4) for condition in range(16)]
-        for word in (None, *words):
-            told = instructionrules.rules_of(word)
-            self.assertTrue(told)
-            for rule in told:
-                self.assertIn(" ".join(rule.split()), document)

@@ -38,9 +38,8 @@ class InterfaceTest(ToolTest):
                 if number + 1 < len(claims):
                     after = claims[number + 1]
                     self.assertEqual(machine.advance(after.count), after.output)
-                    self.assertEqual(
-                        (machine.count, machine.state.registers, machine.state.pc), (after.count, after.registers, after.pc)
-                    )
+                    found = machine.count, machine.state.registers, machine.state.pc
+                    self.assertEqual(found, (after.count, after.registers, after.pc))
 
     def test_the_machines_of_all_claims_are_those_of_each(self) -> None:
         for text in (FACE, record((EXAMPLES / "clock.json").read_bytes())):
@@ -76,10 +75,8 @@ class InterfaceTest(ToolTest):
         self.assertEqual([it.registers[0] for it in states], [(count + 1) // 2 for count in range(301)])
         self.assertEqual([it.keys for it in states[19:22]], [b"", b"", b"A"])
         machine = galluspa.Machine.claim(text)
-        self.assertEqual(
-            [(it.count, it.registers) for it in machine.states(100, every=30)],
-            [(states[at].count, states[at].registers) for at in (0, 30, 60, 90, 100)],
-        )
+        shown = [(it.count, it.registers) for it in machine.states(100, every=30)]
+        self.assertEqual(shown, [(states[at].count, states[at].registers) for at in (0, 30, 60, 90, 100)])
         self.assertEqual(list(machine.states(100)), list(machine.states(100, every=7)))
         steps = list(machine.copy().steps(103))
         self.assertEqual([(it.word, it.before.count) for it in steps], [(COUNTING[count % 2], count) for count in (100, 101, 102)])
@@ -122,13 +119,11 @@ class InterfaceTest(ToolTest):
             self.assertEqual(galluspa.Machine.claim(kind(text), 1).count, 400)
         self.assertEqual(galluspa.check(memoryview(text + text)[: len(text)]), galluspa.check(text))
         given: list[Any] = ["examples/face.orsr", EXAMPLES / "face.orsr", None, 7]
+        calls: list[Callable[[Any], object]] = [galluspa.check, galluspa.record, galluspa.Machine.claim]
+        told = "^a (recording|session) is bytes, not [A-Za-z]+: read its file in mode 'rb'$"
         for it in given:
-            calls: list[Callable[[Any], object]] = [galluspa.check, galluspa.record, galluspa.Machine.claim]
             for call in calls:
-                with self.assertRaisesRegex(
-                    TypeError, "^a (recording|session) is bytes, not [A-Za-z]+: read its file in mode 'rb'$"
-                ):
-                    call(it)
+                self.assertRaisesRegex(TypeError, told, call, it)
 
     def test_bad_numbers_are_value_errors(self) -> None:
         text = record(session(COUNTING, [400]))
@@ -150,14 +145,9 @@ class InterfaceTest(ToolTest):
             with self.assertRaisesRegex(ValueError, r"^(count|every|checkpoint) -?\d+ is not in \d+\.\.\d+$"):
                 call()
         other: Any = machine
-        for call in (
-            lambda: other.advance(1.5),
-            lambda: other.advance("200"),
-            lambda: other.find(7, 200),
-            lambda: other.states(None),
-        ):
-            with self.assertRaises(TypeError):
-                call()
+        wrong: list[Callable[[], object]] = [lambda: other.advance(1.5), lambda: other.advance("200")]
+        for call in (*wrong, lambda: other.find(7, 200), lambda: other.states(None)):
+            self.assertRaises(TypeError, call)
         self.assertEqual((machine.count, machine.advance(100)), (100, b""))
 
     def test_a_machine_says_where_its_recording_ends_and_runs_on_without_inputs(self) -> None:
@@ -172,8 +162,6 @@ class InterfaceTest(ToolTest):
         self.assertEqual(galluspa.Machine.claim(STORED, library=library).count, 0)
 
     def test_it_imports_little_until_it_is_used(self) -> None:
-        script = (
-            "import galluspa, sys; print(sorted(it for it in sys.modules if it.startswith('galluspa')), 'argparse' in sys.modules)"
-        )
+        script = "import galluspa, sys; print([it for it in sys.modules if it.startswith('galluspa')], 'argparse' in sys.modules)"
         ran = run([sys.executable, "-B", "-c", script], env={**os.environ, "PYTHONPATH": str(TOOLS)})
         self.assertEqual(ran.output, b"['galluspa'] False\n")

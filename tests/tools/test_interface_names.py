@@ -8,7 +8,6 @@ import warnings
 from collections.abc import Callable, Iterator
 from functools import partial
 from itertools import pairwise
-from pathlib import Path
 from typing import Any
 
 from PIL import Image
@@ -73,15 +72,7 @@ def told(it: galluspa.Origin) -> dict[str, object]:
 class NamesTest(ToolTest):
     def setUp(self) -> None:
         super().setUp()
-        self.path = self.made("calls", self.file("calls.asm", CALLS), 150)
-
-    def made(self, name: str, source: Path, end: int) -> Path:
-        """Returns the recording of a source, up to a count, with a symbol file beside it."""
-        session, path = self.folder / f"{name}.json", self.folder / f"{name}.orsr"
-        ran = tool("assemble", source, "-o", session, "--symbols", path.with_suffix(".sym"))
-        self.assertEqual(ran.status, 0, ran.errors)
-        path.write_bytes(record(json.loads(session.read_text()) | {"checkpoints": [end // 2, end]}))
-        return path
+        self.path = self.assembled(CALLS, "calls", checkpoints=[75, 150])
 
     def test_a_recording_is_what_its_file_says(self) -> None:
         for path, text in ((self.path, self.path.read_bytes()), (EXAMPLES / "face.orsr", (EXAMPLES / "face.orsr").read_bytes())):
@@ -105,9 +96,8 @@ class NamesTest(ToolTest):
 
     def test_symbols_are_those_of_the_file(self) -> None:
         names = galluspa.Symbols.of(self.path.with_suffix(".sym"))
-        self.assertEqual(
-            (names.address("Deep"), names.address("Deep+8"), names.name(4 * 9), "Deep" in names), (28, 36, "Deep + 0x8", True)
-        )
+        found = names.address("Deep"), names.address("Deep+8"), names.name(4 * 9), "Deep" in names
+        self.assertEqual(found, (28, 36, "Deep + 0x8", True))
         self.assertEqual((len(names), "Main" in list(names), "None" in names, 5 in names), (7, True, False, False))
         self.assertRegex(names.line(28), r"calls\.asm:9$")
         self.assertEqual((names.line(0x8000), names.name(0xFFFF0), len(galluspa.Symbols())), ("", "", 0))
@@ -137,9 +127,8 @@ class NamesTest(ToolTest):
             self.assertEqual(machine.word(place), int.from_bytes(memory[at : at + 4], "little"), place)
         self.assertEqual((machine.data("bytes", 8), machine.data("bytes+2", 1)), (bytes([1, 2, 3, 4, 7, 8, 5, 6]), b"\3"))
         self.assertEqual([machine.registers[f"R{at}"] for at in range(16)], list(registers))
-        self.assertEqual(
-            (machine.registers["SP"], machine.registers["LNK"], machine.registers["H"]), (*registers[14:], machine.state.h)
-        )
+        named = [machine.registers[it] for it in ("SP", "LNK", "H")]
+        self.assertEqual(named, [*registers[14:], machine.state.h])
         self.assert_raises(lambda: machine.word("cel"), "did you mean cell?")
         self.assert_raises(lambda: machine.word("0x100000"), "below 100000")
         self.assert_raises(lambda: machine.data("nothing", 3), "nothing: expected an address")
@@ -181,13 +170,8 @@ class NamesTest(ToolTest):
     def test_who_is_the_last_write_of_a_search(self) -> None:
         opened = galluspa.Recording.open(self.path)
         machine = opened.machine(150)
-        for part, words in (
-            ("cell", "store cell"),
-            ("R3", "writes R3"),
-            ("SP", "writes R14"),
-            ("LNK", "writes R15"),
-            ("flags", "writes flags"),
-        ):
+        parts = {"cell": "store cell", "R3": "writes R3", "SP": "writes R14", "LNK": "writes R15", "flags": "writes flags"}
+        for part, words in parts.items():
             found, hit = machine.who(part), opened.machine().find(words, 150, last=True)
             assert found and hit
             self.assertEqual((found.count, found.step.word), (hit.count, hit.step.word), part)
@@ -212,16 +196,8 @@ class NamesTest(ToolTest):
     def test_why_is_that_of_the_tool(self) -> None:
         machine = galluspa.Recording.open(self.path).machine(150)
         cell = machine.symbols.address("cell")
-        asked: list[tuple[str | int, int]] = [
-            ("cell", 20),
-            ("R3", 3),
-            ("*SP", 20),
-            ("flags", 5),
-            (cell, 1),
-            ("LEDs", 20),
-            ("dot 3,3", 20),
-        ]
-        for part, links in asked:
+        asked: list[tuple[str | int, int]] = [("cell", 20), ("R3", 3), ("*SP", 20), ("flags", 5), (cell, 1), ("LEDs", 20)]
+        for part, links in (*asked, ("dot 3,3", 20)):
             text = hex(part) if isinstance(part, int) else part
             ran = tool("why", self.path, "--at", 150, "--links", links, "--json", *text.split())
             self.assertEqual([told(it) for it in machine.why(part, links)], json.loads(ran.output)["values"], part)
@@ -333,7 +309,7 @@ class NamesTest(ToolTest):
     def test_the_package_offers_what_its_interface_lists(self) -> None:
         names = [*interface.__all__, "__version__"]
         script = (
-            "import galluspa; from galluspa import *; print(*galluspa.__all__, *(it for it in galluspa.__all__ if it in globals()))"
+            "from galluspa import *; import galluspa; print(*galluspa.__all__, *(it for it in galluspa.__all__ if it in globals()))"
         )
         ran = run([sys.executable, "-B", "-c", script], env={**os.environ, "PYTHONPATH": str(TOOLS)})
         self.assertEqual(ran.output.decode().split(), [*names, *names])

@@ -27,11 +27,11 @@ class MainTest(ToolTest):
         self.assertEqual(galluspa("help", "find"), galluspa("find", "--help"))
 
     def test_each_subcommand_helps(self) -> None:
+        """Its help ends with an example of itself."""
         for it in commands():
-            self.assert_helps(it.name)
-            self.assertTrue(tool(it.name, "--help").output.startswith(f"usage: galluspa {it.name} [-h]".encode()))
-            ran = tool(it.name, "--bad", "x")
-            self.assert_refused(ran, f"galluspa {it.name}: ", f"(see galluspa {it.name} --help)")
+            first, *_, before, example = self.lines_of(it.name, "--help")
+            self.assertTrue(first.startswith(f"usage: galluspa {it.name} [-h]"), first)
+            self.assertEqual((before, example.startswith(f"  galluspa {it.name}")), ("example:", True))
 
     def test_a_subcommand_imports_no_other(self) -> None:
         script = (
@@ -54,46 +54,34 @@ class MainTest(ToolTest):
             self.assertEqual((ran.output, ran.status), (alone.output, alone.status))
             self.assertEqual(tool("check", "--workers", 1, path).output, alone.output)
         for ran in (galluspa(FACE, false, short), tool("check", FACE, "--cut", 2, false, "--workers", 2, short)):
-            self.assertEqual(
-                ran.output.decode().splitlines(),
-                [
-                    f"{FACE}: accepted 4 checkpoints 20000000 steps",
-                    f"{false}: false checkpoint 1 at 2 part R5",
-                    f"{short}: refused 1 short at byte 9503",
-                ],
-            )
-            self.assertEqual(ran.status, 2)
+            lines = f"{FACE}: accepted 4 checkpoints 20000000 steps\n{false}: false checkpoint 1 at 2 part R5\n"
+            self.assertEqual((ran.output.decode(), ran.status), (f"{lines}{short}: refused 1 short at byte 9503\n", 2))
 
     def test_explains_what_is_refused(self) -> None:
-        for name, text, told in (
-            ("short.orsr", STORED[:-1], "galluspa check: the file ends in its pages, events and checkpoints, at byte 9503"),
-            ("it.json", (EXAMPLES / "keys.json").read_bytes(), "galluspa check: a session: galluspa record "),
-            ("it.asm", (EXAMPLES / "keys.asm").read_bytes(), "galluspa check: a source: galluspa assemble "),
-            ("it.html", b"<!doctype html><html>", "galluspa check: a page: galluspa recording-of "),
-            ("memory.bin", bytes(40), "galluspa check: if it is a memory image, galluspa session --memory "),
+        """Of each kind of file that is taken for another one."""
+        for command, name, text, told in (
+            ("check", "short.orsr", STORED[:-1], "the file ends in its pages, events and checkpoints, at byte 9503"),
+            ("check", "it.json", (EXAMPLES / "keys.json").read_bytes(), "a session: galluspa record "),
+            ("check", "it.asm", (EXAMPLES / "keys.asm").read_bytes(), "a source: galluspa assemble "),
+            ("check", "it.html", b"<!doctype html><html>", "a page: galluspa recording-of "),
+            ("check", "memory.bin", bytes(40), "if it is a memory image, galluspa session --memory "),
+            ("record", "it.json", b'{"format": 1}', "the session lacks version\ngalluspa record: rule   the session has exactly "),
+            ("record", "it.asm", (EXAMPLES / "keys.asm").read_bytes(), "a source: galluspa assemble "),
+            ("record", "it.orsr", STORED, f"a recording already: galluspa {self.folder / 'it.orsr'} checks it"),
+            ("record", "it.bin", bytes(40), "if it is a memory image, galluspa session --memory "),
+            (
+                "record",
+                "it.json",
+                json.dumps(session([0x5100FFC8, 0xA0100000, 0xE7FFFFFE], [1 << 30])).encode(),
+                "rule   a recording has at most",
+            ),
         ):
-            ran = galluspa(self.file(name, text))
-            self.assertEqual((ran.output, ran.status), (run([PROGRAM], text).output, 2))
-            self.assertIn(told, ran.errors)
-        path = self.file("it.json", b'{"format": 1}')
-        ran = tool("record", path)
-        self.assertEqual((ran.output, ran.status), (b"session refused 2 shape\n", 2))
-        self.assertTrue(
-            ran.errors.startswith("galluspa record: the session lacks version\ngalluspa record: rule   the session has exactly ")
-        )
-        for name, text, told in (
-            ("it.asm", (EXAMPLES / "keys.asm").read_bytes(), "galluspa record: a source: galluspa assemble "),
-            ("it.orsr", STORED, f"galluspa record: a recording already: galluspa {self.folder / 'it.orsr'} checks it"),
-            ("it.bin", bytes(40), "galluspa record: if it is a memory image, galluspa session --memory "),
-        ):
-            ran = tool("record", self.file(name, text))
-            self.assertEqual((ran.output, ran.status), (b"session refused 1 json\n", 2))
-            self.assertIn(told, ran.errors)
+            ran = tool(command, self.file(name, text))
+            self.assertEqual((ran.output, ran.status), (run([PROGRAM, command], text).output, 2))
+            self.assertIn(f"galluspa {command}: {told}", ran.errors)
         ran = tool("check", "--workers", 99, FACE)
-        self.assertEqual((ran.output, ran.status), (b"words refused\n", 4))
-        self.assertEqual(
-            ran.errors, "galluspa check: the program refuses the arguments check --workers 99 (see galluspa check --help)\n"
-        )
+        told = "galluspa check: the program refuses the arguments check --workers 99 (see galluspa check --help)\n"
+        self.assertEqual((ran.output, ran.status, ran.errors), (b"words refused\n", 4, told))
 
     def test_the_commands_are_those_of_the_program(self) -> None:
         keys, stored = EXAMPLES / "keys.json", self.file("stored.orsr", STORED)
@@ -111,10 +99,6 @@ class MainTest(ToolTest):
             self.assertEqual((ran.output, ran.status), (b"" if alone.status == 0 else alone.output, alone.status))
             self.assertEqual(made.read_bytes() if made.exists() else None, alone.output if alone.status == 0 else None)
             made.unlink(missing_ok=True)
-        sends = self.file("it.json", json.dumps(session([0x5100FFC8, 0xA0100000, 0xE7FFFFFE], [1 << 30])))
-        ran = tool("record", sends)
-        self.assertEqual((ran.output, ran.status), (b"record refused 1 output\n", 2))
-        self.assertIn("the session sends more", ran.errors)
 
     def test_says_its_version(self) -> None:
         self.assertRegex(galluspa("--version").output, rb"^galluspa 0\.\d{8}, as it is in the repository\n$")
@@ -137,22 +121,11 @@ class MainTest(ToolTest):
         with browser.browser() as running, running.page(page_file) as page:
             page.wait("document.getElementById('g-name').innerText === 'keys'")
             self.assertEqual(page.errors, [])
-            self.assertEqual(page.answer("document.getElementById('line').innerText"), "accepted 3 checkpoints 100 steps")
+            self.assertEqual(page.answer("document.getElementById('g-line').textContent"), "accepted 3 checkpoints 100 steps")
             page.answer("document.getElementById('g-run').click()")
             page.wait("document.getElementById('g-count').innerText.startsWith('100')")
-        self.assert_refused(tool("live", self.file("bad.json", "{}")), "neither a recording nor a session: session refused 2 shape")
-        self.assert_refused(tool("live", self.file("bad.orsr", FACE.read_bytes()[:99])), "refused 1 short")
-        self.assert_refused(tool("live", "-o", page_file), "use -o with FILE")
 
-    def test_refuses_bad_input(self) -> None:
-        self.assert_refused(galluspa("none"), "galluspa: none: neither a file nor a command (see galluspa --help)")
-        self.assert_refused(galluspa("reprot", FACE), "reprot: neither a file nor a command; did you mean report?")
-        self.assert_refused(galluspa("help", "none"), "none: neither a file nor a command")
-        self.assert_refused(galluspa("--bad"), "galluspa: ", "(see galluspa --help)")
-        for name in ("record", "migrate"):
-            self.assert_refused(tool(name, FACE, FACE), f"galluspa {name}: unrecognized arguments: {FACE} (see ")
-        self.assert_refused(tool("screen", FACE), "required: --at (see galluspa screen --help)")
-        self.assert_refused(tool("check", self.folder), "Is a directory")
+    def test_a_missing_file_costs_the_others_nothing(self) -> None:
         ran = galluspa(FACE, self.folder / "none")
         self.assertEqual((ran.status, ran.output.decode()), (2, f"{FACE}: accepted 4 checkpoints 20000000 steps\n"))
         self.assertIn("none: No such file", ran.errors)

@@ -3,13 +3,11 @@
 from galluspa.analysis.conditions import conditions_of
 from galluspa.analysis.timeline import Timeline
 from galluspa.debugger.navigation import THE_BEGINNING, THE_END, Debugger
-from galluspa.engine.library import Library
 from galluspa.engine.tracing import Run
-from galluspa.formats import recording
 from galluspa.formats.symbolfiles import parsed
 from galluspa.formats.symbols import Symbols
 from tests.tools import naivecalls
-from tests.tools.samples import ToolTest, record, session, tool
+from tests.tools.samples import ToolTest, record, run_of, session
 
 # Counts the nodes of two trees by recursion: each Tree keeps its number and its return address in a frame, and Leaf has none.
 TREES = """
@@ -46,17 +44,14 @@ class TimelineTest(ToolTest):
 
     def setUp(self) -> None:
         super().setUp()
-        symbols = self.folder / "it.sym"
-        ran = tool("assemble", self.file("it.asm", TREES), "--symbols", symbols)
-        self.assertEqual(ran.status, 0, ran.errors)
-        self.text, self.symbols = record(ran.output), parsed(symbols.read_bytes())
+        self.text = self.assembled(TREES).read_bytes()
+        self.symbols = parsed((self.folder / "it.sym").read_bytes())
         self.steps = list(self.run_of().steps(self.run_of().machine(0), 300))
         stacks = list(naivecalls.stacks(self.steps))
         self.calls, self.depths = [[it.count for it in stack] for stack in stacks], list(map(len, stacks))
 
     def run_of(self) -> Run:
-        read = recording.read(self.text)
-        return Run(Library.find(None), read, range(len(read.checkpoints)))
+        return run_of(self.text)
 
     def debugger(self, count: int = 0, symbols: Symbols | None = None) -> Debugger:
         return Debugger(Timeline(self.run_of()), self.symbols if symbols is None else symbols, 2, count)
@@ -87,9 +82,8 @@ class TimelineTest(ToolTest):
         for count in range(1, 280, 3):
             debugger = self.debugger(count)
             debugger.step_back_over()
-            self.assertEqual(
-                debugger.count, next(at for at in range(count - 1, -1, -1) if self.depths[at] <= self.depths[count]), count
-            )
+            wanted = next(at for at in range(count - 1, -1, -1) if self.depths[at] <= self.depths[count])
+            self.assertEqual(debugger.count, wanted, count)
 
     def test_a_procedure_was_called_where_its_depth_began_and_ends_where_it_is_less(self) -> None:
         seen = set()
@@ -99,9 +93,8 @@ class TimelineTest(ToolTest):
             if not depth:
                 continue
             seen.add(depth)
-            self.assertEqual(
-                debugger.stack[-1].count, next(at for at in range(count, -1, -1) if self.depths[at - 1] < depth) - 1, count
-            )
+            called = next(at for at in range(count, -1, -1) if self.depths[at - 1] < depth) - 1
+            self.assertEqual(debugger.stack[-1].count, called, count)
             debugger.leave(depth)
             self.assertEqual(debugger.count, next(at for at in range(count, 300) if self.depths[at] < depth), count)
         self.assertEqual(seen, {1, 2, 3, 4, 5})
@@ -147,9 +140,7 @@ class TimelineTest(ToolTest):
         self.assertEqual(over.count, forward[1])
 
     def test_a_machine_that_stops_ends_the_run(self) -> None:
-        text = record(session([0x40080001, 0x000C0000], [9]))
-        run_of = Run(Library.find(None), recording.read(text), range(2))
-        debugger = Debugger(Timeline(run_of), Symbols(), 1)
+        debugger = Debugger(Timeline(run_of(record(session([0x40080001, 0x000C0000], [9])))), Symbols(), 1)
         self.assertEqual((debugger.go_on().reasons, debugger.count), (["the machine has stopped (float)"], 2))
         self.assertEqual(debugger.go_on().reasons, ["the machine has stopped (float): it does nothing more"])
         self.assertIsNone(debugger.step())

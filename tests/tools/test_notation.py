@@ -1,7 +1,6 @@
-"""The notation of the listing, assembled and listed both ways; the sources of the examples; the page of the language."""
+"""The notation of instructions, written and read; the sources of the examples; the page of the language."""
 
 import io
-import json
 import os
 import random
 import re
@@ -15,7 +14,7 @@ from galluspa.assembler.mnemonics import BRANCHES, MNEMONICS, source_of, word_of
 from galluspa.formats import recording
 from galluspa.formats.instructions import instruction
 from galluspa.formats.language import LANGUAGE
-from tests.tools.samples import EXAMPLES, GALLUSPA, PROGRAM, TOP, ToolTest, group, record, run, session, tool
+from tests.tools.samples import EXAMPLES, GALLUSPA, PROGRAM, TOP, ToolTest, group, record, run, tool
 from tests.tools.test_assemble import words_in
 
 HEADS = [top << 16 for top in range(0, 1 << 16, 17)]
@@ -52,21 +51,6 @@ class NotationTest(ToolTest):
             self.assertEqual(instruction(word_of(mnemonic), 0).mnemonic, mnemonic)
             self.assertEqual(source_of(word), mnemonic if word_of(mnemonic) == word else f"word 0x{word:08X}  ; {mnemonic}")
         self.assertEqual([word_of(text) for text in ("B -1", "BL 5", "BNE -2")], [0xE7FFFFFF, 0xF7000005, 0xE9FFFFFE])
-
-    def test_the_source_of_a_listing_is_the_session_again(self) -> None:
-        for name in ("hello", "face", "draw", "clock"):
-            path = EXAMPLES / f"{name}.json"
-            source = self.file("it.asm", tool("listing", "--source", "--words", 64, path).output)
-            image = self.folder / "it.bin"
-            self.assertEqual(tool("assemble", source, "--image", image).errors, "")
-            page = bytes.fromhex(json.loads(path.read_bytes())["pages"][0]["hex"])
-            self.assertEqual(image.read_bytes().rstrip(b"\0"), page.rstrip(b"\0"))
-
-    def test_listings_begin_where_they_are_told(self) -> None:
-        path = self.file("it.json", json.dumps(session([0, 0, 0x7D00800E, 0xE7FFFFFF], [1])))
-        ran = tool("listing", "--source", "--from", 2, path)
-        self.assertEqual(ran.output, b"        origin 0x8\n        word 0x7D00800E  ; MOV' R13, 32782\n        B -1\n")
-        self.assertEqual(tool("listing", "--source", "--markdown", path).status, 2)
 
 
 class ExamplesTest(ToolTest):
@@ -105,14 +89,14 @@ class PageTest(ToolTest):
         """Returns the source of a program that the page has."""
         return (TOP / "docs/assembler.md").read_text().split("```text\n")[number].split("```")[0]
 
-    def recorded(self, source: str) -> bytes:
+    def made(self, source: str) -> bytes:
         """Returns the recording of a source, which has no mistake."""
         ran = tool("assemble", self.file("it.asm", source))
         self.assertEqual((ran.errors, ran.status), ("", 0))
         return record(ran.output)
 
     def test_its_program_is_recorded(self) -> None:
-        made = self.recorded(self.program(1))
+        made = self.made(self.program(1))
         self.assertTrue(made.endswith(b"Hello, world\n"))
         self.assertEqual(run([GALLUSPA, "session", "--of", self.file("it.orsr", made)]).status, 0)
 
@@ -131,12 +115,12 @@ class PageTest(ToolTest):
     def test_its_program_takes_a_key_and_sets_a_dot(self) -> None:
         source = self.program(2)
         for at in (0, 2, 100):
-            made = self.recorded(source.replace("input 100", f"input {at}"))
+            made = self.made(source.replace("input 100", f"input {at}"))
             self.assertTrue(made.endswith(b"k"), f"a key at {at} is sent")
             screen = Image.open(io.BytesIO(run([PROGRAM, "screen", "--at", 1], made).output)).convert("1")
             dots = [at for at, dot in enumerate(screen.getdata()) if not dot]
             self.assertEqual(dots, [1024 * (767 - 100) + 330])
-        waits = recording.read(self.recorded(re.sub(r"^ *input .*\n", "", source, flags=re.MULTILINE)))
+        waits = recording.read(self.made(re.sub(r"^ *input .*\n", "", source, flags=re.MULTILINE)))
         said = group(r"the last checkpoint of the session, (\d+), is", (TOP / "docs/assembler.md").read_text())
         self.assertEqual(waits.checkpoints[-1].count, int(said))
 
@@ -150,14 +134,14 @@ class PageTest(ToolTest):
             ("BCS", 4, -1, True),
             ("BCS", -1, 4, False),
         ):
-            made = self.recorded(
+            made = self.made(
                 f"MOV R1, {one}\nMOV R3, {other}\nSUB R2, R1, R3\n{mnemonic} yes\nno: B no\n" "yes: MOV R0, 1\nB no\nuntil loops"
             )
             taken = recording.read(made).checkpoints[-1].registers[0]
             self.assertEqual(taken, int(is_taken), f"{mnemonic} after {one} - {other}")
 
         for flags, left in (("C", 6), ("NZV", 7)):
-            made = self.recorded(f"set flags = {flags}\nset R1 = 9\nSUB' R0, R1, 2\ncheckpoints 1")
+            made = self.made(f"set flags = {flags}\nset R1 = 9\nSUB' R0, R1, 2\ncheckpoints 1")
             self.assertEqual(recording.read(made).checkpoints[-1].registers[0], left, "SUB' subtracts C itself")
 
     def test_what_is_advised_for_32_bits_is_the_number(self) -> None:
@@ -165,5 +149,5 @@ class PageTest(ToolTest):
             it = assembled(f"MOV R4, {number}")
             upper = group(r"write (MOV' R4, \d+) and then", it.problems[0].text)
             lower = group(r"and then (IOR R4, R4, \d+)", it.problems[0].text)
-            made = self.recorded(f"{upper}\n{lower}\ncheckpoints 2")
+            made = self.made(f"{upper}\n{lower}\ncheckpoints 2")
             self.assertEqual(recording.read(made).checkpoints[-1].registers[4], number & 0xFFFFFFFF)

@@ -8,7 +8,7 @@ from typing import Any
 from galluspa.formats.oberonmodules import MOST_MODULES, modules_of
 from galluspa.formats.symbolfiles import parsed
 from galluspa.process.cli import Refused
-from tests.tools.samples import GALLUSPA, JUMP, STORED, ToolTest, record, run, session, tool
+from tests.tools.samples import GALLUSPA, JUMP, ToolTest, record, run, session, tool
 
 MEMORY_BYTES = 1 << 20
 MODULES: Sequence[tuple[str, Mapping[str, int]]] = (
@@ -44,21 +44,8 @@ class Loader:
             place += len(text) + 4
         entries = place + 4
         self.memory[at : at + 32] = name.encode().ljust(32, b"\0")
-        self.put(
-            at + 32,
-            self.root,
-            0x1234,
-            len(self.places) + 1,
-            entries + 64 - at,
-            0,
-            begin,
-            begin + data,
-            imports,
-            names,
-            entries,
-            entries + 8,
-            0,
-        )
+        head = (self.root, 0x1234, len(self.places) + 1, entries + 64 - at, 0)
+        self.put(at + 32, *head, begin, begin + data, imports, names, entries, entries + 8, 0)
         self.root = self.places[name] = at
         self.free = (entries + 64 + 31) // 32 * 32
         self.put(20, self.root)
@@ -85,11 +72,8 @@ class ModulesTest(ToolTest):
     def test_a_symbol_file_is_made_of_a_recording_a_session_and_an_image(self) -> None:
         loader = loaded()
         image = self.file("it.bin", bytes(loader.memory))
-        pages = [
-            {"at": at // 1024, "hex": loader.memory[at : at + 1024].hex()}
-            for at in range(0, MEMORY_BYTES, 1024)
-            if any(loader.memory[at : at + 1024])
-        ]
+        shown = {at: bytes(loader.memory[at : at + 1024]) for at in range(0, MEMORY_BYTES, 1024)}
+        pages = [{"at": at // 1024, "hex": content.hex()} for at, content in shown.items() if any(content)]
         made: dict[str, Any] = {**session([JUMP], [9]), "pages": pages}
         # The first instruction removes System from the list, as Modules.Free does with its name.
         at = loader.places["System"]
@@ -116,11 +100,8 @@ class ModulesTest(ToolTest):
             ["System", "System.Open", "System.Directory + 0x4", "System.ShowCommandsOfMod + 0x57"],
         )
         self.assertEqual(names.text(loader.places["Texts"] + 84), "Texts:data + 0x4")
-        self.assertTrue(
-            tool("trace", recorded, "--steps", 1, "--symbols", self.folder / "it.sym").errors.startswith(
-                "galluspa trace: 11 names from "
-            )
-        )
+        told = tool("trace", recorded, "--steps", 1, "--symbols", self.folder / "it.sym").errors
+        self.assertTrue(told.startswith("galluspa trace: 11 names from "), told)
 
     def test_memories_that_have_no_list_end_in_one_line(self) -> None:
         def changed(name: str, *changes: tuple[int, bytes]) -> bytes:
@@ -135,6 +116,7 @@ class ModulesTest(ToolTest):
 
         at = loaded().places
         commands = at["System"] + 80 + 64 + 128 + 8
+        cut = changed("System", (64, word(MEMORY_BYTES - 4)))[: MEMORY_BYTES - 4]
         for memory, told in (
             (bytes(MEMORY_BYTES), "the word at byte 20 is 0"),
             (changed("", (20, word(2))), "leads to 2 (hexadecimal), where no descriptor can be"),
@@ -154,17 +136,12 @@ class ModulesTest(ToolTest):
             (changed("", (commands + 8, word(128))), "command Open is at"),
             (changed("", (commands + 8, word(6))), "outside of its code"),
             (changed("", (commands + 8, b"\xff" * 4)), "outside of its code"),
-            (
-                changed("System", (64, word(MEMORY_BYTES - 4)))[: MEMORY_BYTES - 4] + b"Abc\0",
-                "leads to 100000 (hexadecimal), beyond the memory",
-            ),
+            (cut + b"Abc\0", "leads to 100000 (hexadecimal), beyond the memory"),
         ):
             with self.assertRaises(Refused) as caught:
                 list(modules_of(memory))
             self.assertIn(told, str(caught.exception))
             self.assertTrue(str(caught.exception).isprintable())
-        path = self.file("none.bin", b"")
-        self.assert_refused(tool("symbols", "--oberon", path), f"{path}: the word at byte 20 is 0")
 
     def test_lists_that_are_too_long_end(self) -> None:
         loader = Loader()
@@ -176,23 +153,3 @@ class ModulesTest(ToolTest):
         loader.load("M", {f"C{at}": 0 for at in range(1001)})
         with self.assertRaisesRegex(Refused, "module M has more than 1,000 commands"):
             list(modules_of(bytes(loader.memory)))
-
-    def test_refuses_bad_input(self) -> None:
-        self.assert_helps("symbols")
-        self.assert_refused(tool("symbols"), "--oberon")
-        image = self.file("it.bin", bytes(loaded().memory))
-        self.assert_refused(tool("symbols", "--oberon", image, "--at", 3), f"--at 3: {image} is not a recording")
-        self.assert_refused(
-            tool("symbols", "--oberon", self.file("large.bin", bytes(MEMORY_BYTES + 1))),
-            "large.bin: an image has at most 1,048,576 bytes",
-        )
-        self.assert_refused(
-            tool("symbols", "--oberon", self.file("bad.json", b" {}")),
-            "bad.json: neither a recording nor a session: session refused 2 shape",
-        )
-        self.assert_refused(tool("symbols", "--oberon", self.file("bad.orsr", STORED[:-1])), "bad.orsr: refused 1 short")
-        self.assert_refused(
-            tool("symbols", "--oberon", self.file("stored.orsr", STORED), "--at", 101),
-            "--at 101 is after the last checkpoint, which is at 100",
-        )
-        self.assert_refused(tool("symbols", "--oberon", self.folder / "none"), "No such file")

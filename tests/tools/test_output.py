@@ -9,9 +9,6 @@ from tests.tools.samples import EXAMPLES, GALLUSPA, JUMP, STORED, ToolTest, clai
 
 
 class OutputTest(ToolTest):
-    def test_helps(self) -> None:
-        self.assert_helps("output")
-
     def test_prints_what_was_sent(self) -> None:
         hello = self.file("hello.orsr", record((EXAMPLES / "hello.json").read_bytes()))
         for words, sent in (((), b"Hello, world\n"), (("--at", 1), b"Hello,"), (("--at", 2), b" world\n")):
@@ -27,20 +24,20 @@ class OutputTest(ToolTest):
             self.assertEqual(tool("output", text, *words).output, sent)
         self.assertEqual(tool("output", self.file("stored.orsr", STORED)).output, b"")
 
-    def test_a_terminal_gets_text_alone(self) -> None:
-        for sent, status in ((b"Hello\nyou", 0), (b"\x1b[2J", 2), ("é".encode(), 2)):
-            text = self.file("it.orsr", encoded(2, [page_of(JUMP)], [claim(0), claim(5, output=sent)]))
-            reader, terminal = pty.openpty()
-            with open(terminal, "wb") as shown:
-                ran = subprocess.run([GALLUSPA, "output", text], stdout=shown, stderr=subprocess.PIPE, check=False)
-                told = os.read(reader, 100) if status == 0 else b""
-            os.close(reader)
-            self.assertEqual((ran.returncode, told), (status, sent.replace(b"\n", b"\r\n") if status == 0 else b""))
+    def on_terminal(self, *words: object) -> tuple[int, bytes, bytes]:
+        """Returns the status of a command, what it prints on a terminal, and on standard error."""
+        reader, terminal = pty.openpty()
+        with open(terminal, "wb") as shown:
+            ran = subprocess.run([GALLUSPA, *map(str, words)], stdout=shown, stderr=subprocess.PIPE, check=False)
+            told = os.read(reader, 100) if ran.returncode == 0 else b""
+        os.close(reader)
+        return ran.returncode, told, ran.stderr
 
-    def test_refuses_bad_input(self) -> None:
-        stored = self.file("stored.orsr", STORED)
-        self.assert_refused(tool("output"), "RECORDING")
-        self.assert_refused(tool("output", self.folder / "none"), "No such file")
-        self.assert_refused(tool("output", self.file("short.orsr", STORED[:-1])), "refused 1 short at byte 9503")
-        self.assert_refused(tool("output", stored, "--at", 2), "no checkpoint 2")
-        self.assert_refused(tool("output", stored, "--at", 0), "'0' is not a whole number from 1 to 4,096")
+    def test_a_terminal_gets_text_alone(self) -> None:
+        told = b"the output is not text: write it into a file, with > FILE\n"
+        for sent, shown in ((b"Hello\nyou", b"Hello\r\nyou"), (b"\x1b[2J", b""), ("é".encode(), b"")):
+            text = self.file("it.orsr", encoded(2, [page_of(JUMP)], [claim(0), claim(5, output=sent)]))
+            wanted = (0, shown, b"") if shown else (2, b"", b"galluspa output: " + told)
+            self.assertEqual(self.on_terminal("output", text), wanted)
+        words = ("slice", EXAMPLES / "face.orsr", "--from", 1, "--to", 2)
+        self.assertEqual(self.on_terminal(*words), (2, b"", b"galluspa slice: " + told))

@@ -1,6 +1,5 @@
 """galluspa profile: instructions, calls and stacks, against a naive look at each instruction."""
 
-import json
 from collections import Counter
 from dataclasses import replace
 from pathlib import Path
@@ -16,21 +15,13 @@ from galluspa.engine.tracing import Run
 from galluspa.formats.recording import WORDS
 from galluspa.formats.symbolfiles import parsed
 from galluspa.formats.symbols import NONE
-from galluspa.output.profileformats import callgrind, difference, folded, text
+from galluspa.output.profileformats import callgrind, difference, text
 from tests.programs import randomly, waiting
 from tests.tools import naivecalls
 from tests.tools.samples import EXAMPLES, TOP, ToolTest, record, run, tool
 from tests.tools.test_navigation import TREES
 
 FRAMES = EXAMPLES / "frames/main.asm"
-STACKS = {
-    "(no_call)": 9,
-    "Shapes.Box": 50,
-    "Shapes.Box;Shapes.Row": 1468,
-    "Shapes.Box;Shapes.Row;Display.Dot": 2240,
-    "Shapes.Box;Shapes.Column": 1468,
-    "Shapes.Box;Shapes.Column;Display.Dot": 2240,
-}
 # Code before the first label runs on into Main, which calls Leaf; and Tail is left by a jump.
 BARE = """
         MOV SP, 2000H
@@ -59,14 +50,11 @@ class ProfileTest(ToolTest):
         end = it.counts[-1] if to is None else to
         return profile_of(it, first, end, self.symbols, limit)
 
-    def test_helps(self) -> None:
-        self.assert_helps("profile")
-
     def assert_exact(self, first: int, to: int, path: Path | None = None, limit: int = EACH_RISE) -> Profile:
         """Compares a profile with a naive look at each instruction, and at the calls that are open before it."""
         found, it = self.profile(first, to, path, limit), Run.begun(Library.find(None), (path or self.orsr).read_bytes())
         steps = list(it.steps(it.machine(0), to))
-        own, inclusive, calls, edges, sites, stacks = (Counter[object]() for _ in range(6))
+        own, inclusive, calls, edges, sites = (Counter[object]() for _ in range(5))
 
         def of(at: int) -> Procedure:
             return found.procedures.of(at) if at < WORDS else Procedure(WORDS, NO_NAME, NO_MODULE)
@@ -79,15 +67,10 @@ class ProfileTest(ToolTest):
             inclusive.update({of(call.to) for call in stack})
             edges.update({(of(call.at), of(call.to)) for call in stack})
             sites.update({(call.at, of(call.to)) for call in stack})
-            stacks[";".join(of(call.to).name for call in stack) or "(no call)"] += 1
             calls.update((call.at, of(call.to)) for call in later[-1:] if call.count == step.before.count)
         self.assertEqual((found.own, found.instructions), (+own, sum(own.values())))
         self.assertEqual((+Counter(found.inclusive()), +Counter(found.inclusive_edges())), (inclusive, edges))
         self.assertEqual((+found.totals.of_sites, found.calls()), (sites, {site: calls[site] for site in {*sites, *calls}}))
-        shown: Counter[str] = Counter()
-        for names, count in found.stacks():
-            shown[";".join(names)] += count
-        self.assertEqual(shown, stacks)
         return found
 
     def test_counts_are_those_of_single_steps(self) -> None:
@@ -112,25 +95,21 @@ class ProfileTest(ToolTest):
         rows = {it.procedure.name: it for it in found.rows()}
         self.assertEqual(rows["Tree"].inclusive, sum(rows[name].own for name in ("Tree", "Tree.leaf", "Leaf") if name in rows))
 
-    def test_stacks_are_followed(self) -> None:
+    def test_rows_are_those_of_the_source(self) -> None:
         found = self.profile()
-        self.assertEqual(
-            dict(line.rsplit(" ", 1) for line in folded(found)), {names: str(count) for names, count in STACKS.items()}
-        )
         rows = {it.procedure.name: (it.own, it.inclusive, it.calls) for it in found.rows()}
         self.assertEqual(rows["Shapes.Column"], (1468, 3708, 4))
         self.assertEqual(rows["Main"], (9, 0, 0))
         self.assertEqual(next(it for it in text(found) if it.endswith("  Main")).split()[3], "-")
 
     def test_a_profile_from_a_later_count_has_the_calls_that_are_open_there(self) -> None:
-        self.assertTrue(all(line.startswith("Shapes.Box;") for line in folded(self.profile(1000, 1100))))
+        rows = {it.procedure.name: it.inclusive for it in self.profile(1000, 1100).rows()}
+        self.assertEqual(rows["Shapes.Box"], 100)
 
     def test_a_jump_into_another_procedure_is_no_call(self) -> None:
         orsr = self.file("bare.orsr", record(tool("assemble", self.file("bare.asm", BARE), "--symbols", self.sym).output))
         self.symbols = parsed(self.sym.read_bytes())
         found = self.assert_exact(0, 92, orsr)
-        stacks = dict(line.rsplit(" ", 1) for line in folded(found))
-        self.assertEqual(stacks, {"(no_call)": "42", "Leaf": "20", "Tail": "30"})
         rows = {it.procedure.name: (it.own, it.inclusive) for it in found.rows()}
         self.assertEqual([rows[name] for name in ("(no name)", "Main", "Leaf", "Tail")], [(2, 0), (40, 0), (40, 20), (10, 30)])
 
@@ -158,18 +137,6 @@ class ProfileTest(ToolTest):
         self.assertEqual(lines[3].split(), ["+112", "4,592", "4,480", "328", "320", "Display.Dot"])
         self.assertEqual(len(lines), 6)
 
-    def test_the_command_writes_all_formats(self) -> None:
-        page, stacks = self.folder / "it.html", self.folder / "it.txt"
-        ran = tool("profile", self.orsr, "--page", page, "--folded", stacks, "--json")
-        self.assertEqual((ran.status, len(ran.errors.splitlines())), (0, 1), ran.errors)
-        found = json.loads(ran.output)
-        self.assertEqual((found["instructions"], found["procedures"][0]["with callees"]), (7475, 4480))
-        self.assertEqual(found["procedures"][0]["name"], "Display.Dot")
-        self.assertEqual(len(stacks.read_text().splitlines()), len(STACKS))
-        text = page.read_text()
-        self.assertIn("<title>Display.Dot: 2,240 instructions with callees, 30.0 %</title>", text)
-        self.assertNotIn("<script", text)
-
     def test_many_calls_cost_little(self) -> None:
         """A call each sixth instruction, in a run of ten million: 3.3 million turns."""
         source = (
@@ -177,16 +144,5 @@ class ProfileTest(ToolTest):
         )
         orsr = self.file("it.orsr", record(tool("assemble", self.file("it.asm", source)).output))
         with self.takes_at_most(8):
-            ran = tool("profile", orsr, "--json")
-        self.assertEqual([it["with callees"] for it in json.loads(ran.output)["procedures"]], [3_333_333])
-
-    def test_what_is_refused_is_one_line(self) -> None:
-        bare = self.file("bare/it.orsr", self.orsr.read_bytes())
-        self.assert_refused(tool("profile", bare, "--from", 8000), "--from 8000 is after the last checkpoint, which is at 7475")
-        self.assert_refused(tool("profile", bare, "--from", 80, "--to", 7), "--to 7 is before --from 80")
-        self.assert_refused(
-            tool("profile", self.file("bad.orsr", b"x")), "bad.orsr: cannot read checkpoint 0: the bytes are not a recording"
-        )
-        self.assert_refused(tool("profile", self.folder / "none.orsr"), "none.orsr: No such file")
-        full = tool("profile", bare, "--folded", "/dev/full")
-        self.assertEqual((full.status, full.errors), (3, "galluspa profile: /dev/full: No space left on device\n"))
+            ran = tool("profile", orsr)
+        self.assertIn(b" 3,333,333 ", ran.output)

@@ -1,6 +1,5 @@
 """The plugin of pytest, in a folder as a user has it: scripts, recordings, the fixture `oberon`, approving, and what is wrong."""
 
-import json
 import os
 import re
 import shutil
@@ -20,6 +19,39 @@ def test_it(oberon):
     assert system.word("Send") == system.machine.word(4 * 9)
     assert system.machine.state.leds == 0x69 and len(system.recording()) > 1000
     assert system.until("PC=Send") is None
+"""
+# The fixture with all inputs and images; one line of it fails.
+FIXTURE = """
+import pytest
+import galluspa
+
+def test_image_of_the_settings(oberon):
+    assert oberon().type("a").sends("a").sent == b"a"
+
+def test_raw_memory(oberon):
+    system = oberon("../raw.bin", at=0x1000, PC=0x400, patience=10_000)
+    assert system.type("abc").after(100).sent == b"abc"
+    assert system.screen().size == (1024, 768) and system.count > 100
+    assert [it.name for it in system.until("PC=1034").calls()] == [""]
+    machine = system.machine
+    assert machine.who("LEDs").count < system.count == machine.count == machine.end
+    assert machine.why("LEDs")[0].count == machine.who("LEDs").count
+
+def test_two_systems(oberon):
+    one, other = oberon(), oberon("image.json")
+    assert one.type("a").still().sent != other.type("b").still().sent
+
+def test_refusals(oberon):
+    system = oberon()
+    for call in (lambda: system.mouse(1024, 0), lambda: system.click(0, 0, 9), lambda: system.switches(4096)):
+        with pytest.raises(ValueError, match="is not in 0"):
+            call()
+    with pytest.raises(galluspa.Refused, match="No such file"):
+        oberon("none.json")
+    with pytest.raises(galluspa.Refused, match="rubbish"):
+        system.until("rubbish")
+    with pytest.raises(pytest.fail.Exception, match="once .!. is sent never comes: not up to count 500"):
+        oberon(patience=500).sends("!")
 """
 
 
@@ -60,23 +92,16 @@ class PluginTest(ToolTest):
     def test_a_script_is_approved_passes_and_fails_with_what_differs(self) -> None:
         self.script("Hi\xe1")
         self.assert_ends(self.pytest(), 1, "E   not approved yet: --galluspa-approve writes what is seen", "1 failed")
-        self.assert_ends(
-            self.pytest("--galluspa-approve"), 0, "tests/it.rerun.json::rerun: approved now (1 look, 3 bytes sent)", "1 passed"
-        )
+        told = "tests/it.rerun.json::rerun: approved now (1 look, 3 bytes sent)"
+        self.assert_ends(self.pytest("--galluspa-approve"), 0, told, "1 passed")
         self.assertEqual((self.folder / "tests/it.approved/sent.txt").read_text(), "Hi\\e1\n")
         self.assert_ends(self.pytest(), 0, "1 passed")
         before = shutil.copy(self.folder / "tests/image.json", self.folder / "before.json")
         self.image(LONGER)
-        output = self.assert_ends(
-            self.pytest("--galluspa-recordings", "build/kept", "--junit-xml", "junit.xml", "--galluspa-before", before),
-            1,
-            "E   it: running, LEDs 61, approved running, LEDs E1",
-            "E   screen it: 1 dot from 71,0 to 71,0",
-            'E   sent, line 1: "Hia", approved "Hi\\e1"',
-            "E     - Hi\\e1",
-            "E     + Hia",
-            "1 failed",
-        )
+        words = ("--galluspa-recordings", "build/kept", "--junit-xml", "junit.xml", "--galluspa-before", before)
+        seen = ("E   it: running, LEDs 61, approved running, LEDs E1", "E   screen it: 1 dot from 71,0 to 71,0")
+        sent = ('E   sent, line 1: "Hia", approved "Hi\\e1"', "E     - Hi\\e1", "E     + Hia")
+        output = self.assert_ends(self.pytest(*words), 1, *seen, *sent, "1 failed")
         self.assertRegex(output, r"E   because byte 2 was sent; now 61 at \d+ by Send \+ 0x4 .*; before E1 at \d+ by")
         self.assertTrue((self.folder / "build/kept/tests/it.orsr").is_file())
         failure = ElementTree.parse(self.folder / "junit.xml").getroot()[0][0][0]
@@ -85,9 +110,7 @@ class PluginTest(ToolTest):
         self.assert_ends(self.pytest("--galluspa-approve"), 0, "approved now (1 look, 3 bytes sent): it: running")
 
     def test_broken_scripts_and_images_are_lines(self) -> None:
-        self.file(
-            "tests/it.rerun.json", '{"format": "galluspa-rerun", "version": 1, "image": "image.json", "events": [\n{"keys": "a"}]}'
-        )
+        self.file("tests/it.rerun.json", script({"keys": "a"}, image="image.json").replace('[{"keys', '[\n{"keys'))
         output = self.assert_ends(self.pytest(), 1, "E   events[0] (line 2): keys is not a member of an event: did you mean key?")
         self.assertEqual(output.count("\nE   "), 1)
         self.script("a", patience=100)
@@ -109,9 +132,8 @@ class PluginTest(ToolTest):
         self.file("good.orsr", STORED)
         self.file("tests/wrong.orsr", rejoining(9))
         self.file("tests/short.orsr", STORED[:-1])
-        output = self.assert_ends(
-            self.pytest(), 1, "2 failed, 1 passed", "E   expected accepted", "E   answered refused 1 short at byte 9503"
-        )
+        told = ("2 failed, 1 passed", "E   expected accepted", "E   answered refused 1 short at byte 9503")
+        output = self.assert_ends(self.pytest(), 1, *told)
         self.assertIn("E   answered false checkpoint 1 at 2 part R5", output)
         self.file("tests/wrong.expect", "false checkpoint 1\n")
         self.file("tests/short.expect", "refused 1\n")
@@ -138,47 +160,10 @@ class PluginTest(ToolTest):
         ran = tool("assemble", self.folder / "image.asm", "--image", self.folder / "raw.bin")
         self.assertEqual(ran.status, 0)
         self.file("pytest.ini", "[pytest]\ngalluspa_image = tests/image.json\ngalluspa_limit = 60\n")
-        self.file(
-            "tests/test_it.py",
-            """
-import pytest
-import galluspa
-
-def test_image_of_the_settings(oberon):
-    assert oberon().type("a").sends("a").sent == b"a"
-
-def test_raw_memory(oberon):
-    system = oberon("../raw.bin", at=0x1000, PC=0x400, patience=10_000)
-    assert system.type("abc").after(100).sent == b"abc"
-    assert system.screen().size == (1024, 768) and system.count > 100
-    assert [it.name for it in system.until("PC=1034").calls()] == [""]
-    machine = system.machine
-    assert machine.who("LEDs").count < system.count == machine.count == machine.end
-    assert machine.why("LEDs")[0].count == machine.who("LEDs").count
-
-def test_two_systems(oberon):
-    one, other = oberon(), oberon("image.json")
-    assert one.type("a").still().sent != other.type("b").still().sent
-
-def test_refusals(oberon):
-    system = oberon()
-    for call in (lambda: system.mouse(1024, 0), lambda: system.click(0, 0, 9), lambda: system.switches(4096)):
-        with pytest.raises(ValueError, match="is not in 0"):
-            call()
-    with pytest.raises(galluspa.Refused, match="No such file"):
-        oberon("none.json")
-    with pytest.raises(galluspa.Refused, match="rubbish"):
-        system.until("rubbish")
-    with pytest.raises(pytest.fail.Exception, match="once .!. is sent never comes: not up to count 500"):
-        oberon(patience=500).sends("!")
-""",
-        )
+        self.file("tests/test_it.py", FIXTURE)
         self.assert_ends(self.pytest(), 1, "1 failed, 3 passed")
         self.file(
-            "tests/test_it.py",
-            (self.folder / "tests/test_it.py")
-            .read_text()
-            .replace('    assert [it.name for it in system.until("PC=1034").calls()] == [""]\n', ""),
+            "tests/test_it.py", FIXTURE.replace('    assert [it.name for it in system.until("PC=1034").calls()] == [""]\n', "")
         )
         self.assert_ends(self.pytest(), 0, "4 passed")
         self.assert_ends(self.pytest("-n", 2), 0, "4 passed")
@@ -193,9 +178,8 @@ def test_refusals(oberon):
         shutil.copytree(EXAMPLES / "desk", self.folder / "desk", ignore=shutil.ignore_patterns("tests"))
         (self.folder / "tests/image.json").unlink()
         commands = re.sub(r"^.*venv.*pip .*\n|^python3 -m venv .*\n", "", lines, flags=re.MULTILINE)
-        commands = commands.replace(
-            "venv/bin/pytest", f"{sys.executable} -B -m pytest -p no:cacheprovider -p galluspa.testing.plugin"
-        )
+        plugin = f"{sys.executable} -B -m pytest -p no:cacheprovider -p galluspa.testing.plugin"
+        commands = commands.replace("venv/bin/pytest", plugin)
         environment = {**os.environ, "PYTHONPATH": str(TOOLS), "PATH": f"{bin_folder}:{os.environ['PATH']}"}
         ran = run(["bash", "-ec", commands], cwd=self.folder, env=environment)
         self.assert_ends(ran, 0, "tests/sum.rerun.json::rerun: approved now (1 look, 3 bytes sent)")
@@ -205,6 +189,4 @@ def test_refusals(oberon):
     def test_it_imports_little_until_it_is_used(self) -> None:
         code = "import galluspa.testing.plugin, sys; print(sorted(it for it in sys.modules if it.startswith('galluspa')))"
         ran = run([sys.executable, "-B", "-c", code], env={**os.environ, "PYTHONPATH": str(TOOLS)})
-        self.assertEqual(
-            json.loads(ran.output.decode().replace("'", '"')), ["galluspa", "galluspa.testing", "galluspa.testing.plugin"]
-        )
+        self.assertEqual(ran.output, b"['galluspa', 'galluspa.testing', 'galluspa.testing.plugin']\n")

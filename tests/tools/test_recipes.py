@@ -19,15 +19,8 @@ from tests.tools.debian import install
 from tests.tools.samples import EXAMPLES, PROGRAM, STORED, TOP, Ran, ToolTest, group, record, rejoining, run, session, tool
 
 ACCOUNTS = {"one.example": "galluspa-one", "two.example": "galluspa-two"}
-COMMANDS = {
-    "sshd": "openssh-server",
-    "rsync": "rsync",
-    "munged": "munge",
-    "slurmctld": "slurmctld",
-    "slurmd": "slurmd",
-    "sbatch": "slurm-client",
-    "make": "make",
-}
+COMMANDS = {"sshd": "openssh-server", "rsync": "rsync", "munged": "munge", "slurmctld": "slurmctld", "slurmd": "slurmd"}
+COMMANDS |= {"sbatch": "slurm-client", "make": "make"}
 SECONDS = 300
 FOUND = f"{os.environ['PATH']}:/usr/sbin:/sbin"
 # What runs as the program: each of its runs is killed while there is a file `kill`. A check that takes a file `jobs/kill` away is killed
@@ -56,9 +49,8 @@ def long_recording() -> bytes:
     waits for another switch. It is recorded with less of the rest: a machine that waits is in one of three states."""
     words = [0x5400FFC0, 0x60000773, 0x40090001, 0xE9FFFFFE, 0x81400004, 0x02190003, 0xE1FFFFFD, 0x03000001, 0xE7FFFFF8]
     short, quarter = 250_000_001, 5_000_000_000
-    read = recording.read(
-        record(session(words, [short * k for k in range(1, 5)], [(short * k, "switches", k) for k in range(1, 4)]))
-    )
+    inputs = [(short * k, "switches", k) for k in range(1, 4)]
+    read = recording.read(record(session(words, [short * k for k in range(1, 5)], inputs)))
     assert quarter % 3 == short % 3
     checkpoints = [replace(it, count=it.count // short * quarter) for it in read.checkpoints]
     events = [replace(it, count=it.count // short * quarter) for it in read.events]
@@ -145,17 +137,6 @@ class RecipesTest(ToolTest):
         state = (self.folder / "jobs/killed").read_text().strip()
         self.assertIn(state, ("R", "S", "D") if is_at_work else ("R", "S", "D", "Z"))
 
-    def assert_suite(self, ran: Ran) -> None:
-        """A recipe printed what the suite gives on one machine, without times, and wrote JUnit."""
-        alone = run([f"{self.folder}/bin/galluspa", "suite", self.folder / "suite"], env=self.environment())
-        lines, wanted = ([line for line in it.output.split(b"\n") if not line.startswith(b"# ")] for it in (ran, alone))
-        self.assertEqual((lines, ran.status), (wanted, alone.status), ran.errors)
-        self.assertIn('tests="6"', (self.folder / "junit.xml").read_text())
-
-    def assert_missing(self, ran: Ran, shard: str, of: int) -> None:
-        """A number of recordings of a recipe's suite are in a missing shard, and all others are as they have to be."""
-        self.assertEqual((ran.status, ran.output.decode().count(f'answered: "no shard checked it; missing: {shard}"')), (1, of))
-
     def checked(self, path: Path) -> tuple[bytes, int]:
         """Returns the line of a recording and the status of its check on one machine."""
         ran = run([PROGRAM, "check"], path.read_bytes())
@@ -190,23 +171,6 @@ class ParallelTest(RecipesTest):
             accepted = [line for line in (self.folder / "lines.txt").read_text().splitlines() if "\taccepted " in line]
             self.assertEqual(len(accepted), 0 if killed else 2)
 
-    def test_shards_of_a_suite(self) -> None:
-        self.want("sshd", "rsync")
-        self.accounts()
-        self.sshd()
-        self.file("suite/false.orsr", rejoining(9))
-        self.assert_suite(self.run_recipe("suite"))
-        self.assertEqual(self.runs_of_jobs(), 4)
-        self.kill_a_job()
-        self.assert_suite(self.run_recipe("suite"))
-        self.assert_killed()
-        self.assertEqual([list(Path(f"/home/{name}").rglob("*.orsr")) for name in ACCOUNTS.values()], [[], []])
-        self.file("suite/false.expect", "false checkpoint 1")
-        self.assertEqual(self.run_recipe("suite").status, 0)
-        (self.folder / "2.json").unlink()
-        merge = recipe("suite").splitlines()[-1]
-        self.assert_missing(run(["bash", "-uc", merge], cwd=self.folder, env=self.environment()), "2/4", 2)
-
     def test_shards_of_a_long_recording(self) -> None:
         self.want("sshd", "rsync")
         self.accounts()
@@ -218,10 +182,6 @@ class ParallelTest(RecipesTest):
         self.assertEqual((ran.output, ran.status), alone, ran.errors)
         self.assert_killed(is_at_work=True)
         self.assertEqual([list(Path(f"/home/{name}").rglob("*.orsr")) for name in ACCOUNTS.values()], [[], []])
-
-    def runs_of_jobs(self) -> int:
-        """Returns how many jobs parallel has in its log."""
-        return len((self.folder / "jobs.log").read_text().splitlines()) - 1
 
     def test_the_status_stops_at_101(self) -> None:
         for jobs, status in ((3, 3), (103, 101)):
@@ -268,21 +228,7 @@ class SlurmTest(RecipesTest):
     def test_job_arrays(self) -> None:
         self.want("munged", "slurmctld", "slurmd", "sbatch")
         self.cluster()
-        self.file("suite/false.orsr", rejoining(9))
-        self.suite()
         self.long_recording()
-
-    def suite(self) -> None:
-        """A suite in shards, each a task of an array."""
-        self.kill_a_job()
-        ran = self.run_recipe("array")
-        self.assert_killed()
-        [missing] = {1, 2, 3, 4} - {int(path.stem) for path in (self.folder / "shards").glob("*.json")}
-        self.assert_missing(ran, f"{missing}/4", 2 if missing < 3 else 1)
-        done = [path.stat().st_mtime_ns for path in sorted((self.folder / "shards").glob("*.json"))]
-        self.assert_suite(self.run_recipe("array"))
-        self.assertEqual(len(list((self.folder / "shards").glob("*.json"))), 4)
-        self.assertLessEqual(set(done), {path.stat().st_mtime_ns for path in (self.folder / "shards").glob("*.json")})
 
     def long_recording(self) -> None:
         """The shards of one recording, each a task of an array."""
@@ -322,16 +268,9 @@ class SlurmTest(RecipesTest):
         for name in ("state", "spool"):
             (it / name).mkdir()
         self.file("munge.key", os.urandom(128)).chmod(0o600)
-        self.start(
-            "munged",
-            "--foreground",
-            "--force",
-            f"--socket={it}/munge.socket",
-            f"--key-file={it}/munge.key",
-            f"--pid-file={it}/munged.pid",
-            f"--log-file={it}/munged.log",
-            f"--seed-file={it}/seed",
-        )
+        files = ("socket=munge.socket", "key-file=munge.key", "pid-file=munged.pid", "log-file=munged.log", "seed-file=seed")
+        options = (f"--{name}={it}/{file}" for name, file in (option.split("=") for option in files))
+        self.start("munged", "--foreground", "--force", *options)
         self.until("test", "-S", f"{it}/munge.socket")
         self.start("slurmctld", "-D")
         self.start("slurmd", "-D", "-N", host)

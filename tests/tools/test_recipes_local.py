@@ -1,69 +1,8 @@
-"""The recipes of docs/suites.md that need no servers, run exactly as shown: a CI matrix, and make. Of each that runs shards, a job is
-killed and done again."""
+"""The recipe of docs/suites.md that needs no server, run exactly as shown: make."""
 
-import shutil
-from pathlib import Path
-from typing import Any
-
-import yaml
 
 from tests.tools.samples import STORED, Ran, rejoining, run
 from tests.tools.test_recipes import SECONDS, RecipesTest, recipe
-
-
-class MatrixTest(RecipesTest):
-    """The jobs of a CI system, as far as the recipe uses it: each in a folder of its own, with a checkout, files that jobs keep, and
-    the words of its shell."""
-
-    def setUp(self) -> None:
-        super().setUp()
-        self.jobs: dict[str, Any] = yaml.safe_load(recipe("matrix"))["jobs"]
-        self.kept = self.folder / "kept"
-        self.kept.mkdir()
-
-    def job(self, name: str, shard: int = 0) -> Ran:
-        """Returns what the shell of a job printed, and its status. A job that is killed does none of its later steps."""
-        work = self.folder / f"work/{name}-{shard}"
-        shutil.rmtree(work, ignore_errors=True)
-        work.mkdir(parents=True)
-        ran = Ran(b"", "", 0)
-        text = recipe("matrix").replace("${{ matrix.shard }}", str(shard))
-        self.assertNotIn("${{", text)
-        for step in yaml.safe_load(text)["jobs"][name]["steps"]:
-            if words := step.get("run"):
-                ran = run(["bash", "-ec", words], cwd=work, env=self.environment())
-                if ran.status < 0 or ran.status > 128:
-                    return ran
-            else:
-                self.act(step["uses"].partition("@")[0], step.get("with", {}), work)
-        return ran
-
-    def act(self, action: str, given: dict[str, Any], work: Path) -> None:
-        """Does what an action does in the folder of a job."""
-        if action == "actions/checkout":
-            shutil.copytree(self.folder / "suite", work / "suite")
-        elif action == "actions/upload-artifact":
-            shutil.copy(work / given["path"], self.kept / given["name"])
-        else:
-            self.assertEqual((action, given["merge-multiple"]), ("actions/download-artifact", True))
-            (work / given["path"]).mkdir()
-            for path in self.kept.iterdir():
-                shutil.copy(path, work / given["path"] / f"{path.name}.json")
-
-    def test_shards_of_a_suite(self) -> None:
-        self.file("suite/false.orsr", rejoining(9))
-        shards = self.jobs["check"]["strategy"]["matrix"]["shard"]
-        self.assertEqual((shards, self.jobs["merge"]["needs"]), ([1, 2, 3, 4], "check"))
-        self.assertEqual([self.job("check", k).status for k in shards[:2]], [0, 1])
-        self.kill_a_job()
-        self.assertEqual(self.job("check", 3).status, -9)
-        self.assert_killed()
-        self.assertEqual(self.job("check", 4).status, 0)
-        self.assert_missing(self.job("merge"), "3/4", 1)
-        self.assertEqual(self.job("check", 3).status, 0)
-        ran = self.job("merge")
-        shutil.copy(self.folder / "work/merge-0/junit.xml", self.folder)
-        self.assert_suite(ran)
 
 
 class MakeTest(RecipesTest):

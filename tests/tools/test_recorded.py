@@ -15,7 +15,8 @@ from galluspa.formats import recording
 from galluspa.formats.recording import WORDS, Event, page_of
 from galluspa.process.timelimit import Limit, TimeIsUp
 from tests.tools.samples import GALLUSPA, Ran, ToolTest, claim, encoded, processor_seconds, record, session, tool, until
-from tests.tools.test_trace import COUNTING, run_of
+from tests.tools.samples import run_of
+from tests.tools.test_trace import COUNTING
 
 
 def plain(step: Step) -> Step:

@@ -78,19 +78,10 @@ def some_claims(chance: random.Random) -> list[Checkpoint]:
     claims = []
     pages = {5: 1}
     for k in range(20):
-        words = {name: chance.getrandbits(32) for name in STATE_WORDS}
-        claims.append(
-            claim(
-                100 * k,
-                pages,
-                registers=tuple(chance.getrandbits(32) for _ in range(16)),
-                **words,
-                rate=10,
-                phase=k % 10,
-                keys=bytes(range(1, chance.randrange(17) + 1)),
-                output=bytes(range(k)),
-            )
-        )
+        registers, words = tuple(chance.getrandbits(32) for _ in range(16)), {it: chance.getrandbits(32) for it in STATE_WORDS}
+        keys = bytes(range(1, chance.randrange(17) + 1))
+        parts = {**words, "registers": registers, "rate": 10, "phase": k % 10, "keys": keys, "output": bytes(range(k))}
+        claims.append(claim(100 * k, pages, **parts))
         pages = {**pages, **{chance.randrange(PLACES): chance.randrange(5) for _ in range(3)}}
     return claims
 
@@ -129,9 +120,8 @@ class RecordingTest(unittest.TestCase):
         self.assert_reads(text, 2, claims, [])
 
     def test_what_the_program_wrote_is_written_again(self) -> None:
-        timed = session(
-            [0x5100FFC8, 0xA1100000, 0xE7FFFFFD], range(1, 40), [(3, "mouse", 0x73FF3FF), (9, "key", 65), (9, "serial", 66)]
-        )
+        inputs = [(3, "mouse", 0x73FF3FF), (9, "key", 65), (9, "serial", 66)]
+        timed = session([0x5100FFC8, 0xA1100000, 0xE7FFFFFD], range(1, 40), inputs)
         timed["start"].update(rate=7, phase=6)
         for text in (
             (EXAMPLES / "face.orsr").read_bytes(),
@@ -144,21 +134,10 @@ class RecordingTest(unittest.TestCase):
 
     def test_memory_is_read_through_the_table(self) -> None:
         face = recording.read((EXAMPLES / "face.orsr").read_bytes())
-        last = face.checkpoints[-1]
-        self.assertEqual(face.word(last, 0), 0x6D00000E)
-        self.assertEqual(face.memory(last, 0, 8).hex(), "0e00006d007fd64d")
-        self.assertEqual(len(face.memory(last, recording.DISPLAY_START, recording.DISPLAY_END)), 98304)
-        self.assertEqual(
-            face.memory(last, 0, 1 << 20)[recording.DISPLAY_START : recording.DISPLAY_END],
-            face.memory(last, recording.DISPLAY_START, recording.DISPLAY_END),
-        )
-
-    def test_changed_slots_go_by_content(self) -> None:
-        claims = [claim(k, pages) for k, pages in enumerate([{1: 1}, {1: 2}, {1: 3, 9: 1}])]
-        read = recording.read(encoded(1, [page_of(7), page_of(7), page_of(8)], claims))
-        first, second, third = read.checkpoints
-        self.assertEqual(read.changed_slots(first, second), [])
-        self.assertEqual(read.changed_slots(second, third), [1, 9])
+        last, start, end = face.checkpoints[-1], recording.DISPLAY_START, recording.DISPLAY_END
+        self.assertEqual((face.word(last, 0), face.memory(last, 0, 8).hex()), (0x6D00000E, "0e00006d007fd64d"))
+        self.assertEqual(len(face.memory(last, start, end)), 98304)
+        self.assertEqual(face.memory(last, 0, 1 << 20)[start:end], face.memory(last, start, end))
 
     def test_other_texts_are_refused_without_a_traceback(self) -> None:
         chance = random.Random(2)

@@ -1,4 +1,4 @@
-"""galluspa recording-of: the recording in a live report comes out as it went in, and no page makes the tool grow or hang."""
+"""galluspa recording-of: the recording in a report comes out as it went in, and no page makes the tool grow or hang."""
 
 import base64
 import gzip
@@ -9,12 +9,9 @@ from tests.tools.samples import EXAMPLES, STORED, ToolTest, rejoining, tool
 
 
 class RecordingOfTest(ToolTest):
-    def test_helps(self) -> None:
-        self.assert_helps("recording-of")
-
-    def report(self, text: bytes, *words: str) -> Path:
+    def report(self, text: bytes) -> Path:
         """Returns the page of a text."""
-        return self.file("report.html", tool("report", self.file("it.orsr", text), *words).output)
+        return self.file("report.html", tool("report", self.file("it.orsr", text)).output)
 
     def page(self, *packed: bytes) -> Path:
         """Returns a page that holds these as recordings."""
@@ -23,7 +20,7 @@ class RecordingOfTest(ToolTest):
 
     def test_the_recording_comes_out_as_it_went_in(self) -> None:
         for text in ((EXAMPLES / "face.orsr").read_bytes(), rejoining(9), STORED[:-1], b""):
-            ran = tool("recording-of", self.report(text, "--live"))
+            ran = tool("recording-of", self.report(text))
             self.assertEqual((ran.output, ran.errors, ran.status), (text, "", 0))
 
     def test_takes_the_recording_of_an_exported_project(self) -> None:
@@ -42,7 +39,6 @@ class RecordingOfTest(ToolTest):
     def test_refuses_bad_input(self) -> None:
         self.assert_refused(tool("recording-of"), "PAGE")
         self.assert_refused(tool("recording-of", self.folder / "none"), "No such file")
-        self.assert_refused(tool("recording-of", self.report(STORED)), "no recording in this page")
         whole = gzip.compress(STORED)
         self.assert_refused(tool("recording-of", self.page(whole, whole)), "2 recordings in this page")
         bomb = gzip.compress(bytes(120_000_000), 1)

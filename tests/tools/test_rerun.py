@@ -70,10 +70,9 @@ class RerunsTest(ToolTest):
 
     def image(self, name: str, source: str) -> Path:
         """Returns the session of a source, as an image."""
-        path = self.folder / f"{name}.json"
-        ran = tool("assemble", self.file(f"{name}.asm", source), "-o", path)
-        self.assertEqual(ran.status, 0, ran.errors)
-        return path
+        self.assembled(source, name)
+        (self.folder / f"{name}.sym").unlink()
+        return self.folder / f"{name}.json"
 
     def rerun(self, *words: object, status: int = 0) -> list[str]:
         """Returns the lines of TAP, but for the times."""
@@ -83,8 +82,7 @@ class RerunsTest(ToolTest):
 
     def answers(self, *words: object, status: int = 0) -> list[str]:
         """Returns what is answered to each session that is not as approved."""
-        lines = self.rerun(*words, status=status)
-        return [json.loads(line.partition("answered: ")[2]) for line in lines if "answered: " in line]
+        return [json.loads(line.partition("answered: ")[2]) for line in self.rerun(*words, status=status) if "answered: " in line]
 
     def resolved(self, *events: dict[str, Any], image: str = ECHO, **members: Any) -> recording.Recording:
         """Returns the recording that is made of a script."""
@@ -172,31 +170,24 @@ class EventsTest(RerunsTest):
         self.file("tests/it.rerun.json", script({"key": "abc"}, {"look": "it"}, patience=1000))
         words = ("--image", image, "--recordings", self.folder / "made")
         (told,) = self.answers(*words, status=1)
-        self.assertRegex(
-            told,
-            r"^events\[0\] \(line 1\), key 62 when the machine polls key, never comes: not up to count 1,001, where PC is \d+$",
-        )
+        end = "never comes: not up to count 1,001, where PC is"
+        self.assertRegex(told, rf"^events\[0\] \(line 1\), key 62 when the machine polls key, {end} \d+$")
         self.assertEqual(self.answers(*words, "--approve", status=1), [f"not approved: {told}"])
         self.assertFalse((self.tests / "it.approved").exists())
         self.assertEqual(recording.read((self.folder / "made/it.orsr").read_bytes()).checkpoints[-1].output, b"a")
         self.file("tests/it.rerun.json", script({"key": "a"}, {"serial": "b"}, {"timer": 1}, {"switches": 1}, {"key": "c"}))
         (told,) = self.answers(*words, status=1)
-        self.assertRegex(
-            told,
-            r"events\[4\] \(line 1\), key 63 when the machine polls key, never comes: the machine stopped \(divisor\) at count \d+",
-        )
+        end = r"never comes: the machine stopped \(divisor\) at count"
+        self.assertRegex(told, rf"events\[4\] \(line 1\), key 63 when the machine polls key, {end} \d+")
         last = recording.read((self.folder / "made/it.orsr").read_bytes()).checkpoints[-1]
         self.assertEqual((last.stop, last.count), (2, int(told.split()[-1])))
 
     def test_an_event_is_numbered_as_it_stands_in_the_script_and_a_name_says_where_the_machine_hangs(self) -> None:
-        path = self.folder / "image.json"
-        ran = tool("assemble", self.file("image.asm", DEVICES), "-o", path, "--symbols", self.folder / "image.sym")
-        self.assertEqual(ran.status, 0, ran.errors)
+        self.assembled(DEVICES, "image")
         self.file("tests/it.rerun.json", script({"key": "a"}, {"serial": "xyz"}, {"look": "it"}, patience=1000))
-        ran = tool("rerun", self.tests, "--image", path)
-        self.assertEqual(ran.status, 1)
-        told = r"events\[1\] \(line 1\), serial 79 when the machine polls serial, never comes: not up to count [\d,]+, where PC is \d+, time"
-        self.assertRegex(ran.output.decode(), told)
+        told = "\n".join(self.lines_of("rerun", self.tests, "--image", self.folder / "image.json", status=1, errors=None))
+        end = r"never comes: not up to count [\d,]+, where PC is \d+, time"
+        self.assertRegex(told, rf"events\[1\] \(line 1\), serial 79 when the machine polls serial, {end}")
 
     def test_a_look_once_nothing_changes_is_waited_for_no_longer_than_patience(self) -> None:
         image = self.image("image", ECHO)
@@ -208,7 +199,6 @@ class EventsTest(RerunsTest):
 
     def test_a_session_is_looked_at_once_it_is_still_however_long_that_is(self) -> None:
         image = self.image("image", ECHO)
-        self.file("tests/it.json", image.read_bytes())
         with_stored = json.loads(image.read_text()) | {"checkpoints": [30]}
         self.file("tests/it.json", json.dumps(with_stored))
         self.assertIn("it.json", "".join(self.rerun("--still", 150_000_000, "--approve")))
@@ -238,14 +228,10 @@ class SuiteTest(RerunsTest):
         self.rerun("--image", same, "--still", 500)
         lines = self.rerun("--image", new, "--still", 500, "--recordings", self.folder / "made", status=1)
         self.assertEqual([line for line in lines if line.startswith("not ok")], ["not ok 8 - it07.json", "not ok 20 - it19.json"])
-        self.assertEqual(
-            [json.loads(line.partition("answered: ")[2]) for line in lines if "answered" in line],
-            [
-                f"end: running, LEDs 61, approved running, LEDs E1; screen end: 1 dot from {32 * at + 7},0 to {32 * at + 7},0; "
-                f'sent, line 1: "{keys}a", approved "{keys}\\e1"'
-                for at, keys in ((2, "h7"), (3, "t19"))
-            ],
-        )
+        told = [json.loads(line.partition("answered: ")[2]) for line in lines if "answered" in line]
+        for it, (at, keys) in zip(told, ((2, "h7"), (3, "t19")), strict=True):
+            seen = f"running, LEDs 61, approved running, LEDs E1; screen end: 1 dot from {32 * at + 7},0 to {32 * at + 7},0"
+            self.assertEqual(it, f'end: {seen}; sent, line 1: "{keys}a", approved "{keys}\\e1"')
         # Compared word by word, each of them differs, since the code does.
         ran = tool("diff", "--only", "memory", self.tests / "it02.orsr", self.folder / "made/it02.orsr")
         self.assertEqual(ran.status, 1)
@@ -270,9 +256,8 @@ class SuiteTest(RerunsTest):
 
     def test_memory_is_compared_if_that_is_asked_for(self) -> None:
         old = self.image("old", ECHO + "buffer: word 1, 2\n")
-        self.file(
-            "tests/it.rerun.json", script({"look": "it", "when": {"count": 5}, "memory": ["4,2", "R6 - 4,1"]}, image="old.json")
-        )
+        look = {"look": "it", "when": {"count": 5}, "memory": ["4,2", "R6 - 4,1"]}
+        self.file("tests/it.rerun.json", script(look, image="old.json"))
         (self.tests / "old.json").write_bytes(old.read_bytes())
         self.assertEqual(self.rerun("--approve")[0], "TAP version 13")
         lines = (self.tests / "it.approved/looks.txt").read_text().splitlines()
@@ -287,9 +272,8 @@ class SuiteTest(RerunsTest):
             ran = tool("rerun", one, "--script", *words)
             made = json.loads(ran.output)
             self.assertEqual([it["when"] for it in made["events"][::2]], whens)
-            self.assertEqual(
-                [str(it) for it in read(ran.output).events][-1], "look end once nothing changes for 1000000 instructions"
-            )
+            last = [str(it) for it in read(ran.output).events][-1]
+            self.assertEqual(last, "look end once nothing changes for 1000000 instructions")
 
     def test_raw_images_and_registers(self) -> None:
         raw = self.folder / "raw.bin"

@@ -14,7 +14,7 @@ from galluspa.formats.recording import DISPLAY_END, DISPLAY_START
 from galluspa.formats.scripts import event_lines, read
 from galluspa.interface import Recording
 from galluspa.process.cli import Refused
-from tests.tools.samples import EXAMPLES, ToolTest, record, tool
+from tests.tools.samples import EXAMPLES, ToolTest, tool
 from tests.tools.test_rerun import RerunsTest, script
 
 # Shows each key in the next word of the display and sends it, and inverts a byte of the screen at each PERIODth round.
@@ -77,10 +77,8 @@ LOOK = {"look": "it", "when": {"still": 3000}}
 class WhyTest(RerunsTest):
     def named(self, name: str, source: str) -> Path:
         """Returns the session of a source, as an image with a symbol file beside it."""
-        path = self.folder / f"{name}.json"
-        ran = tool("assemble", self.file(f"{name}.asm", source), "-o", path, "--symbols", path.with_suffix(".sym"))
-        self.assertEqual(ran.status, 0, ran.errors)
-        return path
+        self.assembled(source, name)
+        return self.folder / f"{name}.json"
 
     def told(self, *words: object, status: int = 1) -> tuple[list[str], list[str]]:
         """Returns the answers and the reasons of a run with names."""
@@ -120,13 +118,10 @@ class WhyTest(RerunsTest):
         image = self.named("old", CARET)
         self.file("tests/it.rerun.json", script({"key": "H"}, LOOK, patience=50_000))
         answers, why = self.told("--image", image)
-        self.assertRegex(
-            answers[0], r"^events\[1\] \(line 1\), look it once nothing changes for 3000 instructions, never comes: not up to"
-        )
-        self.assertRegex(
-            why[0],
-            r"^dot 4,10 was changed last at [\d,]+ by Dots \(.*old.asm:26\) < Caret \+ 0x10 < next \+ 0x10: if a caret or a clock blinks there, ",
-        )
+        told = r"^events\[1\] \(line 1\), look it once nothing changes for 3000 instructions, never comes: not up to"
+        self.assertRegex(answers[0], told)
+        by = r"^dot 4,10 was changed last at [\d,]+ by Dots \(.*old.asm:26\) < Caret \+ 0x10 < next \+ 0x10: if a caret or a clock blinks"
+        self.assertRegex(why[0], by)
         self.assertIn("put it into mask, or wait for sends, after or a condition in place of still", why[0])
 
     def test_a_difference_names_the_instructions_of_both_versions(self) -> None:
@@ -135,27 +130,21 @@ class WhyTest(RerunsTest):
         self.approve(old)
         _, why = self.told("--image", other)
         self.assertRegex(why[0], r"^dot 7,0 of it was changed; now by nothing since the beginning$")
-        self.assertRegex(why[1], r"^byte 0 was sent; now 61 at [\d,]+ by Send \+ 0x4 \(.*other.asm:29\) < poll \+ 0x10$")
+        now = r"now 61 at [\d,]+ by Send \+ 0x4 \(.*other.asm:29\) < poll \+ 0x10"
+        self.assertRegex(why[1], rf"^byte 0 was sent; {now}$")
         _, why = self.told("--image", other, "--before", old)
-        self.assertRegex(
-            why[0], r"; now by nothing since the beginning; before at [\d,]+ by Send \+ 0x4 \(.*old.asm:\d+\) < poll \+ 0x10$"
-        )
-        self.assertRegex(
-            why[1],
-            r"; now 61 at [\d,]+ by Send \+ 0x4 \(.*other.asm:29\) < poll \+ 0x10; before E1 at [\d,]+ by Send \(.*old.asm:\d+\) < poll \+ 0x10$",
-        )
+        drawn = r"before at [\d,]+ by Send \+ 0x4 \(.*old.asm:\d+\) < poll \+ 0x10$"
+        self.assertRegex(why[0], rf"; now by nothing since the beginning; {drawn}")
+        self.assertRegex(why[1], rf"; {now}; before E1 at [\d,]+ by Send \(.*old.asm:\d+\) < poll \+ 0x10$")
 
     def test_a_system_that_hangs_says_where_and_costs_one_script(self) -> None:
         image = self.named("hanging", HANGING)
         self.file("tests/it0.rerun.json", script({"key": "a"}, {"look": "it"}))
         answers, why = self.told("--image", image)
-        self.assertRegex(
-            answers[0], r"^events\[0\] \(line 1\), key 61 when the machine polls key, never comes: not up to count 100,000,000, "
-        )
-        self.assertRegex(
-            why[0],
-            r"^the last 100,000 instructions loop in \d words from PC \d to \d, in Work, Inner; at [\d,]+ by .* < Main \+ 0x4$",
-        )
+        told = r"^events\[0\] \(line 1\), key 61 when the machine polls key, never comes: not up to count 100,000,000, "
+        self.assertRegex(answers[0], told)
+        loop = r"^the last 100,000 instructions loop in \d words from PC \d to \d, in Work, Inner; at [\d,]+ by .* < Main \+ 0x4$"
+        self.assertRegex(why[0], loop)
         before = os.times()
         self.told("--image", image, "-j", 1)
         one = sum(os.times()[2:4]) - sum(before[2:4])
@@ -195,10 +184,7 @@ class WhyTest(RerunsTest):
                 r"Calc\.Apply\(.*\) leaves R0 = \w+ now, and \w+ before",
             ),
             (("calc", "MUL R0, R0, 10", "MUL R0, R0, 9"), r"Calc\.Number\(\) leaves R0 = \w+ now, and \w+ before"),
-            (
-                ("texts", "ADD R0, R0, '0'", "ADD R0, R0, '1'"),
-                r"Texts\.Write\(R0 = 3\dH\) at [\d,]+ now, and Texts\.Write\(R0 = 3\dH\)",
-            ),
+            (("texts", "R0, '0'", "R0, '1'"), r"Texts\.Write\(R0 = 3\dH\) at [\d,]+ now, and Texts\.Write\(R0 = 3\dH\)"),
             (("calc", "SUB R3, R0, 1 ", "MOV R3, 1 "), r"Calc\.Apply\(R0 = 0H, R1 = 7H\) has returned before, and not now"),
         ):
             self.built("next", {file: (right, wrong), "main": ("Oberon.Start:\n", "Oberon.Start:\n        MOV R9, 0\n")})
@@ -216,21 +202,15 @@ class WhyTest(RerunsTest):
             text = path.read_text()
             self.assertIn(right, text)
             path.write_text(text.replace(right, wrong, 1))
-        image = self.folder / f"{name}.json"
-        ran = tool("assemble", self.folder / name / "main.asm", "-o", image, "--symbols", image.with_suffix(".sym"))
-        self.assertEqual(ran.status, 0, ran.errors)
+        self.assembled(self.folder / name / "main.asm", name)
 
 
 class DrawingTest(ToolTest):
     """What is drawn while procedures are called, against a machine that is looked at before each instruction."""
 
     def test_what_is_drawn_in_calls_is_what_a_naive_follower_sees(self) -> None:
-        image = self.folder / "it.json"
-        ran = tool("assemble", self.file("it.asm", CARET), "-o", image, "--symbols", self.folder / "it.sym")
-        self.assertEqual(ran.status, 0, ran.errors)
-        stored = json.loads(image.read_text()) | {"inputs": [[700 * at, "key", 65 + at] for at in range(9)], "checkpoints": [9000]}
-        self.file("it.orsr", record(stored))
-        opened = Recording.open(self.folder / "it.orsr")
+        inputs = [[700 * at, "key", 65 + at] for at in range(9)]
+        opened = Recording.open(self.assembled(CARET, inputs=inputs, checkpoints=[9000]))
         run = opened.machine()._run
         for name in ("Caret", "Dots", "Send"):
             procedure = opened.symbols.address(name) // 4
@@ -279,34 +259,9 @@ class LinesTest(unittest.TestCase):
 
     def test_scripts_made_at_random_are_read_or_refused_in_one_line(self) -> None:
         chance, deep = random.Random(5), json.loads("[" * 500 + "]" * 500)
-        values: list[Any] = [
-            None,
-            True,
-            -1,
-            0,
-            7,
-            1 << 70,
-            1.5,
-            float("inf"),
-            "",
-            "x",
-            "a\n\x1b[2J",
-            "\ud800",
-            [],
-            {},
-            [1, 2],
-            deep,
-            "Clock",
-        ]
-        values += [
-            {"count": 1},
-            {"still": 5, "from": 3},
-            {"sends": "x"},
-            {"polls": "key"},
-            [[0, 0, 1, 1], "Clock"],
-            ["4,1"],
-            [3, 4],
-        ]
+        values: list[Any] = [None, True, -1, 0, 7, 1 << 70, 1.5, float("inf"), "", "x", "a\n\x1b[2J", "\ud800", [], {}, [1, 2]]
+        values += [deep, ["4,1"], [3, 4]]
+        values += ["Clock", {"count": 1}, {"still": 5, "from": 3}, {"sends": "x"}, {"polls": "key"}, [[0, 0, 1, 1], "Clock"]]
         names = ["key", "serial", "mouse", "look", "when", "memory", "mask", "keys", "\n", "\ud800", "timer", "switches"]
         good: list[dict[str, Any]] = [{"key": "Hi"}, {"key": 7}, {"mouse": [1, 2]}, {"serial": 1, "when": {"after": 3, "from": 9}}]
         good += [{"look": "a"}, {"look": "b", "mask": ["Clock", [0, 0, 1024, 768]]}]

@@ -73,10 +73,8 @@ class SessionTest(ToolTest):
 
     def test_the_tool_ends_as_the_program_does(self) -> None:
         ran = tool("explain", self.file("it.json", changed("version", to=3)))
-        self.assertEqual(
-            (ran.output.decode(), ran.errors, ran.status),
-            ("session refused 2 shape\n\nversion is 3\nrule   version is 1 or 2\n", "", 2),
-        )
+        told = ("session refused 2 shape\n\nversion is 3\nrule   version is 1 or 2\n", "", 2)
+        self.assertEqual((ran.output.decode(), ran.errors, ran.status), told)
         ran = tool("explain", EXAMPLES / "keys.json")
         self.assertRegex(ran.output.decode(), r"^the session breaks no rule: its recording has [\d,]+ bytes\n$")
         self.assertEqual((ran.errors, ran.status), ("", 0))

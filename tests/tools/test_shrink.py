@@ -11,16 +11,8 @@ from tests.tools.mistakes import FREQUENT, Mistake
 from tests.tools.samples import EXAMPLES, GALLUSPA, PATIENCE, PROGRAM, TOP, ToolTest, run, session, tool
 
 # Reads the keys, one in a round, into a register that is turned in each: so their order shows at the end.
-ROUNDS = [
-    imm(MOV, 2, 0, 0x2DC6) | U,
-    imm(MOV, 1, 0, -64),
-    load(3, 1, KEY),
-    reg(ADD, 4, 4, 3),
-    imm(ROR, 4, 4, 1),
-    imm(SUB, 2, 2, 1),
-    branch(NE, -5),
-    JUMP_HERE,
-]
+ROUNDS = [imm(MOV, 2, 0, 0x2DC6) | U, imm(MOV, 1, 0, -64), load(3, 1, KEY), reg(ADD, 4, 4, 3), imm(ROR, 4, 4, 1), imm(SUB, 2, 2, 1)]
+ROUNDS += [branch(NE, -5), JUMP_HERE]
 
 
 class ShrinkTest(ToolTest):
@@ -34,9 +26,6 @@ class ShrinkTest(ToolTest):
     def mistake(self, name: str) -> Mistake:
         """One of the frequent mistakes, by its name."""
         return next(it for it in FREQUENT if it.name == name)
-
-    def test_helps(self) -> None:
-        self.assert_helps("shrink")
 
     def test_twenty_million_instructions_and_a_thousand_inputs(self) -> None:
         inputs = [(20_000 * at + 7, ("key", "switches", "serial", "mouse")[at % 4], at % 256) for at in range(1000)]
@@ -58,48 +47,24 @@ class ShrinkTest(ToolTest):
         state = self.folder / "state"
         subprocess.run(["cc", "-O1", "-w", f"-I{TOP}/reference", "-o", state, EXAMPLES / "c/state.c"], check=True)
         script = f'{state} $1 $2 {self.folder}/memory.bin | grep -q \'"out": "\\(..\\)*6f\' && exit 1; exit 0'
-        is_wrong = self.file("is-wrong", f"#!/bin/sh\n{script}\n")
-        is_wrong.chmod(0o755)
+        is_wrong = self.executable("is-wrong", script)
         ran = tool("shrink", EXAMPLES / "hello.json", "--", is_wrong, "{recording}", "{count}")
         self.assertEqual(ran.status, 0, ran)
-        self.assertRegex(
-            ran.errors, r"^galluspa shrink: 100 instructions, .* → 1 instruction, 0 inputs, 1 page, 1 word, in \d+ runs\n$"
-        )
+        told = r"^galluspa shrink: 100 instructions, .* → 1 instruction, 0 inputs, 1 page, 1 word, in \d+ runs\n$"
+        self.assertRegex(ran.errors, told)
         recorded = self.file("o.orsr", run([PROGRAM, "record"], ran.output).output)
         self.assertEqual(tool("output", recorded).output, b"o")
 
     def test_the_time_is_over(self) -> None:
         """Also while a command runs that does not end: here the second one, which may take longer."""
-        slow = self.file(
-            "slow", f"#!/bin/sh\necho >> {self.folder}/runs\n[ $(wc -l < {self.folder}/runs) = 1 ] || sleep 600\nexit 1\n"
-        )
-        slow.chmod(0o755)
+        runs = f"{self.folder}/runs"
+        slow = self.executable("slow", f"echo >> {runs}\n[ $(wc -l < {runs}) = 1 ] || sleep 600\nexit 1")
         shutil.copy(EXAMPLES / "keys.json", self.folder)
         words = ("shrink", self.folder / "keys.json", "--answer-seconds", 500, "--limit", 5, "--", slow, "{session}")
         ran = run([GALLUSPA, *words], timeout=PATIENCE)
         self.assertEqual(ran.status, 0)
         self.assertIn("; ended after 5 s: it may get smaller (--limit)", ran.errors)
         self.assertEqual(run([PROGRAM, "record"], ran.output).status, 0)
-
-    def test_refuses_bad_input(self) -> None:
-        keys, of_keys = EXAMPLES / "keys.json", [EXAMPLES / "keys.json", "--"]
-        self.assert_refused(tool("shrink"), "SESSION")
-        self.assert_refused(tool("shrink", keys), "COMMAND")
-        self.assert_refused(tool("shrink", *of_keys, "true"), "put {session} or {recording} into an argument of COMMAND")
-        self.assert_refused(tool("shrink", self.folder / "none", "--", "true", "{session}"), "No such file")
-        self.assert_refused(tool("shrink", *of_keys, "/none", "{session}"), "/none: No such file or directory")
-        for status, told in (
-            (0, "COMMAND does not say that it is wrong, by a status from 1 to 124"),
-            (125, "COMMAND does not say that it is wrong"),
-            (126, "ended with status 126, which says neither right (0) nor still wrong (1 to 124)"),
-            (200, "ended with status 200, which says neither"),
-        ):
-            self.assert_refused(tool("shrink", *of_keys, "sh", "-c", f"exit {status} # {{session}}"), told)
-        self.assert_refused(tool("shrink", *of_keys, "sh", "-c", "kill -9 $$ # {session}"), "ended by signal 9")
-        self.assert_refused(
-            tool("shrink", keys, "--answer-seconds", 1, "--", "sh", "-c", "sleep 9 # {session}"), "no answer in 1 s"
-        )
-        self.assert_refused(tool("shrink", *of_keys, "sh", "-c", "yes # {session}"), "prints more than 16,777,216 bytes")
 
     def test_chunks_that_are_not_needed_are_left_out(self) -> None:
         tried: list[list[int]] = []

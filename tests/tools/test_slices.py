@@ -16,9 +16,6 @@ class SliceTest(ToolTest):
         self.file(f"{first}-{last}.line", run([PROGRAM], cut.output).output)
         return self.file(f"{first}-{last}.orsr", cut.output)
 
-    def test_helps(self) -> None:
-        self.assert_helps("slice")
-
     def test_a_stretch_is_a_recording_of_its_own(self) -> None:
         keys = self.file("keys.orsr", record((EXAMPLES / "keys.json").read_bytes()))
         whole = recording.read(keys.read_bytes())
@@ -45,9 +42,3 @@ class SliceTest(ToolTest):
     def test_a_stretch_of_a_stretch(self) -> None:
         middle = self.slice(FACE, 1, 4)
         self.assertEqual(tool("slice", middle, "--from", 1, "--to", 2).output, self.slice(FACE, 2, 3).read_bytes())
-
-    def test_refuses_bad_input(self) -> None:
-        self.assert_refused(tool("slice", FACE), "--from")
-        self.assert_refused(tool("slice", FACE, "--from", 2, "--to", 2), "--to 2 must come after --from 2")
-        self.assert_refused(tool("slice", FACE, "--from", 2, "--to", 5), "no checkpoint 5")
-        self.assert_refused(tool("slice", self.file("short.orsr", b"ORSR"), "--from", 0, "--to", 1), "refused 1 short")

@@ -7,9 +7,9 @@ import struct
 import sys
 
 from galluspa.assembler.mnemonics import word_of
-from galluspa.formats import recording, symbols
+from galluspa.formats import recording
 from galluspa.formats.symbolfiles import parsed
-from tests.tools.samples import GALLUSPA, PATIENCE, ToolTest, record, run, session, tool
+from tests.tools.samples import GALLUSPA, PATIENCE, ToolTest, run, tool
 
 # A program that calls a procedure twice, which calls another one, with its stack at 1000 (hexadecimal).
 PROGRAM = """
@@ -41,32 +41,12 @@ class ShownTest(ToolTest):
 
     def setUp(self) -> None:
         super().setUp()
-        words = [word_of(line) for line in PROGRAM.split("\n") if line]
-        self.recording = self.file("it.orsr", record(session(words, [40])))
+        self.recording = self.recorded([word_of(line) for line in PROGRAM.split("\n") if line], [40])
         self.symbols = self.file("it.sym", NAMES)
 
     def printed(self, name: str, *arguments: object) -> list[str]:
         """Returns the lines of a tool that says where its names are from."""
-        ran = tool(name, self.recording, *arguments)
-        self.assertEqual((ran.status, ran.errors), (0, f"galluspa {name}: 4 names from {self.symbols}\n"))
-        return ran.output.decode().splitlines()
-
-    def test_listing(self) -> None:
-        lines = self.printed("listing", "--words", 13)
-        self.assertEqual(lines[0], "Main:")
-        self.assertEqual(lines[2], "     1  F7000002  BL 2                  R15 := 8, to 4  ; Dots.Row")
-        self.assertEqual(lines[5:8:2], ["Dots.Row:", "     5  AFE00000  STR R15, R14, 0       Mem[R14] := R15"])
-        self.assertEqual(lines[8], "     6  40000200  MOV R0, 512           R0 := 512  ; Dots.buf")
-        self.assertEqual(lines[-1], "    12  C700000F  B R15                 to R15 div 4  ; Dots.Mod:4")
-
-    def test_listing_as_a_table_and_as_a_source(self) -> None:
-        self.symbols.write_text("0 t a|`<b>\n")
-        table = tool("listing", self.recording, "--markdown", "--words", 2).output.decode().splitlines()
-        self.assertEqual(table[2], "| | | a&#124;&#96;&#60;b&#62;: | |")
-        source = tool("listing", self.recording, "--source", "--words", 13).output
-        self.assertIn(b"; a|`<b>:\n", source)
-        again = tool("assemble", self.file("again.asm", source), "--words").output.decode()
-        self.assertEqual(again.split("\n")[0].split()[:2], ["0", "4E001000"])
+        return self.lines_of(name, self.recording, *arguments, errors=f"galluspa {name}: 4 names from {self.symbols}\n")
 
     def test_trace(self) -> None:
         lines = self.printed("trace", "--steps", 7)
@@ -77,23 +57,8 @@ class ShownTest(ToolTest):
     def test_trace_says_who_called(self) -> None:
         lines = self.printed("trace", "--steps", 14, "--calls")
         told = [it.removeprefix("  stack: ") for it in lines if it.startswith("  stack")]
-        self.assertEqual(
-            told,
-            [
-                "Main",
-                "Dots.Row < Main + 0x8",
-                "Dots.Put < Dots.Row + 0x10 < Main + 0x8",
-                "Dots.Row + 0x10 < Main + 0x8",
-                "Main + 0x8",
-                "Dots.Row < Main + 0xC",
-            ],
-        )
-
-    def test_trace_says_who_called_without_names(self) -> None:
-        self.symbols.unlink()
-        ran = tool("trace", self.recording, "--steps", 8, "--calls")
-        self.assertEqual((ran.errors, ran.status), ("", 0))
-        self.assertIn("  stack: 0x2C < 0x20 < 0x8\n", ran.output.decode())
+        row, put = "Dots.Row + 0x10 < Main + 0x8", "Dots.Put < Dots.Row + 0x10 < Main + 0x8"
+        self.assertEqual(told, ["Main", "Dots.Row < Main + 0x8", put, row, "Main + 0x8", "Dots.Row < Main + 0xC"])
 
     def test_find(self) -> None:
         for condition, shown in (
@@ -111,20 +76,11 @@ class ShownTest(ToolTest):
 
     def test_explain(self) -> None:
         false = self.file("false.orsr", tool("claim", self.recording, "--at", 1, "--set", "R15=0").output)
-        ran = tool("explain", false, "--symbols", self.symbols)
-        self.assertEqual((ran.status, ran.errors), (1, f"galluspa explain: 4 names from {self.symbols}\n"))
-        lines = ran.output.decode().splitlines()
+        told = f"galluspa explain: 4 names from {self.symbols}\n"
+        lines = self.lines_of("explain", false, "--symbols", self.symbols, status=1, errors=told)
         at = lines.index("The last instructions before count 40 that wrote R15:")
-        self.assertEqual(
-            [it.partition("  ; ")[2] for it in lines[at + 1 : at + 6]],
-            [
-                "Dots.Row + 0xC, to Dots.Put",
-                "Dots.Row + 0x10",
-                "Main + 0x8, to Dots.Row",
-                "Dots.Row + 0xC, to Dots.Put",
-                "Dots.Row + 0x10",
-            ],
-        )
+        row = ["Dots.Row + 0xC, to Dots.Put", "Dots.Row + 0x10"]
+        self.assertEqual([it.partition("  ; ")[2] for it in lines[at + 1 : at + 6]], [*row, "Main + 0x8, to Dots.Row", *row])
         self.assertIn("stack: Dots.Row + 0x10 < Main + 0xC", lines)
 
     def test_explain_names_what_differs(self) -> None:
@@ -144,10 +100,8 @@ class ShownTest(ToolTest):
         self.assertTrue(lines[-1].startswith("  page 0, Mem[000204]") and lines[-1].endswith("04030201  ; Dots.buf + 0x4"), lines)
 
     def test_bisect(self) -> None:
-        script = self.file(
-            "other.py",
-            "import json, sys\ncount = int(sys.argv[1])\nprint(json.dumps({'PC': [0, 1, 4, 5, 6, 7, 11, 12, 9][count]}))\n",
-        )
+        counters = "json.dumps({'PC': [0, 1, 4, 5, 6, 7, 11, 12, 9][int(sys.argv[1])]})"
+        script = self.file("other.py", f"import json, sys\nprint({counters})\n")
         ran = tool("bisect", self.recording, "--to", 8, "--steps", 2, "--", sys.executable, script, "{count}")
         lines = ran.output.decode().splitlines()
         self.assertIn("PC  9          8  ; Dots.Row + 0x14 and Dots.Row + 0x10", lines)
@@ -168,21 +122,6 @@ class ShownTest(ToolTest):
             ran = tool("session", "--memory", image, "--set", f"PC={name}", "--every", 1, "--until", 1)
             self.assertEqual(ran.status, 2)
             self.assertIn(told, ran.errors)
-
-    def test_report(self) -> None:
-        self.symbols.write_text("c t <b>Main\x1b[2J\n")
-        false = self.file("it.orsr", tool("claim", self.recording, "--at", 1, "--set", "R15=0").output)
-        ran = tool("report", false)
-        self.assertEqual((ran.status, ran.errors), (1, f"galluspa report: 1 name from {self.symbols}\n"))
-        page = ran.output.decode()
-        self.assertIn("Names of addresses are from <code>it.sym</code>: they are claims", page)
-        self.assertRegex(page, r"The next instruction: <code>3  E7FFFFFF  B -1 .*  ; &lt;b&gt;Main\\x1b\[2J</code>")
-        self.assertNotIn("<b>Main", page)
-        self.assertNotIn("\x1b", page)
-        text = tool("report", "--text", false).output.decode()
-        self.assertIn("  ; <b>Main\\x1b[2J", text)
-        self.symbols.unlink()
-        self.assertNotIn("symbol file", tool("report", false).output.decode())
 
     def test_names_are_beside_the_numbers_of_objects(self) -> None:
         (one,) = map(json.loads, self.printed("find", "--json", "PC=Dots.Put"))
@@ -219,19 +158,25 @@ class ShownTest(ToolTest):
         self.assertEqual((ran.status, len(ran.output.splitlines())), (0, 1))
         self.assertIn(f"{self.symbols}:2: y comes after the name; expected ADDRESS TYPE NAME", ran.errors)
         self.assertTrue(ran.errors.endswith("; its names are not shown\n"), ran.errors)
-        self.assert_refused(
-            tool("trace", self.recording, "--symbols", self.symbols),
-            f"{self.symbols}:2: y comes after the name; expected ADDRESS TYPE NAME",
-        )
-        self.assert_refused(tool("find", self.recording, "stop", "--symbols", self.folder / "none"), "No such file")
+        told = f"{self.symbols}:2: y comes after the name; expected ADDRESS TYPE NAME"
+        self.assert_refused(tool("trace", self.recording, "--symbols", self.symbols), told)
 
     def test_hostile_names_are_shown_harmlessly(self) -> None:
-        self.symbols.write_text("0 t \x1b[2J\u202e;accepted\n" + "10 t a\n" * 1000)
-        for name, arguments in (("trace", "--steps 9 --calls"), ("listing", "--words 13"), ("find", "PC=0-12 --all")):
-            ran = tool(name, self.recording, *arguments.split())
-            self.assertEqual(ran.status, 0, ran.errors)
-            self.assertIn(r"\x1b[2J\u202e;accepted", ran.output.decode())
-            self.assertTrue(ran.output.decode().replace("\n", "").isprintable())
+        self.symbols.write_text("0 t \x1b[2J\u202e;accepted\t\x1b[31m/../x:3\n200 d \x07\n" + "10 t a\n" * 1000)
+        other = self.file("other.orsr", tool("claim", self.recording, "--at", 1, "--set", "R5=9").output)
+        given = "at 5; bt; calls; info b; x/4i PC; x/4xw SP; print SP; info symbol PC; info line PC; break *PC; catch stop"
+        for name, *words in (
+            ("trace", "--steps", 9, "--calls"),
+            ("find", "PC=0-12", "--all"),
+            ("state", "--at", 0, "--stack", "--memory", "PC,4"),
+            ("diff", other, "--who"),
+            ("debug", "--batch", *(word for it in given.split("; ") for word in ("-ex", it))),
+            ("debug", "--batch", "-ex", "list"),
+        ):
+            ran = tool(str(name), self.recording, *words)
+            self.assertEqual(ran.status, 1 if name == "diff" else 2 if "list" in words else 0, ran.errors)
+            self.assertTrue((ran.output.decode() + ran.errors).replace("\n", "").isprintable(), name)
+            self.assertTrue(name in ("diff", "debug") or r"\x1b[2J\u202e;accepted" in ran.output.decode(), name)
 
 
 MAIN = """; Calls a procedure of another source three times.
@@ -270,33 +215,6 @@ class AssembleTest(ToolTest):
         self.rest = self.file("rest.asm", MAIN_GOES_ON)
         self.dots = self.file("parts/dots.asm", DOTS)
 
-    def test_writes_labels_constants_and_lines(self) -> None:
-        path = self.folder / "it.sym"
-        ran = tool("assemble", self.main, self.rest, "-o", self.folder / "it.json", "--symbols", path)
-        self.assertEqual((ran.status, ran.errors), (0, ""))
-        lines = path.read_text().splitlines()
-        self.assertEqual(
-            lines[:6],
-            [
-                f"00000008 0000001C t Dots.Row\t{self.dots}:2",
-                f"00000024 00000008 d Dots.buf\t{self.dots}:10",
-                f"0000002C 00000004 t Main\t{self.main}:6",
-                f"00000030 0000000C t next\t{self.rest}:1",
-                f"0000003C 00000004 t done\t{self.rest}:4",
-                f"00001000 a Stack\t{self.main}:2",
-            ],
-        )
-        self.assertEqual(lines[6:9], [f"00000000 l {self.main}:4", f"00000004 l {self.dots}:1", f"00000008 l {self.dots}:3"])
-        self.assertEqual([it.split()[1] for it in lines[6 + 14 :]], ["code"] * 2 + ["source"] * 3)
-        self.file("it.orsr", record((self.folder / "it.json").read_bytes()))
-        ran = tool("find", self.folder / "it.orsr", "--last", "store", "Dots.buf")
-        self.assertTrue(
-            ran.output.decode().endswith(f"  ; Dots.Row + 0xC, {shortened(f'{self.dots}')}:6, stores to Dots.buf\n"), ran.output
-        )
-        ran = tool("trace", self.folder / "it.orsr", "--calls", "--steps", 12)
-        told = [it.removeprefix("  stack: ") for it in ran.output.decode().splitlines() if it.startswith("  stack")]
-        self.assertEqual(told, ["0x0", "Main", "Main + 0x4", "Dots.Row < Main + 0x8", "Main + 0x8"])
-
     def test_writes_beside_images_and_words_and_nothing_of_mistakes(self) -> None:
         path, image = self.folder / "it.sym", self.folder / "it.bin"
         self.assertEqual(tool("assemble", self.main, self.rest, "--image", image, "--symbols", path).errors, "")
@@ -305,18 +223,6 @@ class AssembleTest(ToolTest):
         self.rest.write_text(MAIN_GOES_ON.replace("BNE", "BNQ"))
         self.assertEqual(tool("assemble", self.main, self.rest, "--words", "--symbols", path).status, 2)
         self.assertFalse(path.exists())
-
-    def test_words_have_lines_and_labels(self) -> None:
-        lines = tool("assemble", self.main, self.rest, "--words").output.decode().splitlines()
-        self.assertEqual(
-            lines[1:4],
-            [
-                f"     1  E7000009  {self.dots}:1  B Main",
-                f"                  {self.dots}:2  Dots.Row:",
-                f"     2  4EE90004  {self.dots}:3  SUB SP, SP, 4",
-            ],
-        )
-        self.assertEqual(lines[12], f"                  {self.main}:6  Main:")
 
     def test_mistakes_have_their_file_and_line(self) -> None:
         self.dots.write_text(DOTS.replace("MOV R0", "MOV R0,") + "Stack: word 1\n")
@@ -374,8 +280,3 @@ class AssembleTest(ToolTest):
         ran = tool("assemble", self.file("names.asm", "Top = SP\nset Top = 80H\nset lnk = 3\nMOV Top, LNK\nevery 1, 1\n"))
         made = json.loads(ran.output)
         self.assertEqual(made["start"]["R"][14:], [0x80, 3])
-
-
-def shortened(name: str) -> str:
-    """Returns the name of a file as the tools show it."""
-    return name if len(name) <= symbols.SHOWN else f"..{name[-symbols.SHOWN:]}"

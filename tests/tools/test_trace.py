@@ -6,23 +6,17 @@ from dataclasses import replace
 from tests.programs import randomly
 from unittest import mock
 
-from galluspa.engine.library import Library
 from galluspa.engine.machine import Machine
 from galluspa.engine.tracing import Run, Step
 from galluspa.formats import recording
-from tests.tools.samples import EXAMPLES, JUMP, STORED, ToolTest, on_terminal, record, rejoining, session, tool
+from galluspa.engine.library import Library
+from tests.tools.samples import EXAMPLES, JUMP, STORED, ToolTest, on_terminal, record, rejoining, run_of, session, tool
 
 # R1 := FF0000H and R1 := 65280 - 1 down to 0 in a loop of two, then a division by 0, which stops.
 COUNTING = (0x6100000F, 0x41190001, 0xE93FFFFE, 0x600B0000)
 STOPS_AFTER = 1 + 2 * 0xF0000
 # R1 := -56; R2 := 10; R2 := R2 - 1 until it is 0; R0 := 65 is sent and stored at 400; a jump to itself.
 SENDING = (0x5100FFC8, 0x4200000A, 0x42290001, 0xE93FFFFE, 0x40000041, 0xA0100000, 0xA0200190, JUMP)
-
-
-def run_of(text: bytes) -> Run:
-    """Returns the run of a true recording."""
-    read = recording.read(text)
-    return Run(Library.find(None), read, range(len(read.checkpoints)))
 
 
 def steps_of(text: bytes, number: int) -> list[Step]:
@@ -34,33 +28,7 @@ def steps_of(text: bytes, number: int) -> list[Step]:
 class TraceTest(ToolTest):
     def lines(self, text: bytes, *words: object) -> list[str]:
         """Returns the lines that the tool prints of a recording."""
-        ran = tool("trace", self.file("it.orsr", text), *words)
-        self.assertEqual((ran.errors, ran.status), ("", 0))
-        return ran.output.decode().splitlines()
-
-    def test_helps(self) -> None:
-        self.assert_helps("trace")
-
-    def test_each_part_that_changes_is_told(self) -> None:
-        words = (0x5100FFC8, 0x80100014, 0xA0100000, 0xA01FFFFC, 0x82100000, 0xB0300191, 0xE7000001)
-        made = record(session(words, [9], [(0, "serial", 0x42), (1, "key", 0x41), (1, "key", 0x42), (6, "timer", 7)]))
-        self.assertEqual(
-            self.lines(made, "--steps", 7),
-            [
-                "         0  input   serial 42H (B)",
-                "         0       0  5100FFC8  MOV R1, -56             R1 00000000 → FFFFFFC8; flags ---- → N---; "
-                "serial 00 → 42, received",
-                "         1  input   key 41H (A)",
-                "         1  input   key 42H (B)",
-                "         1       1  80100014  LDR R0, R1, 20          R0 00000000 → 00000041; flags N--- → ----; keys none → 42",
-                "         2       2  A0100000  STR R0, R1, 0           sends 41H (A)",
-                "         3       3  A01FFFFC  STR R0, R1, -4          LEDs 00 → 41",
-                "         4       4  82100000  LDR R2, R1, 0           R2 00000000 → 00000042; serial 42, received → 42",
-                "         5       5  B0300191  STB R0, R3, 401         Mem[000190] 00000000 → 00004100",
-                "         6  input   timer 7",
-                "         6       6  E7000001  B 1                     PC 6 → 8; timer 0 → 7",
-            ],
-        )
+        return self.lines_of("trace", self.file("it.orsr", text), *words)
 
     def test_the_end_of_a_machine_is_told(self) -> None:
         for words, stop in (
@@ -80,19 +48,8 @@ class TraceTest(ToolTest):
 
     def test_objects_for_machines(self) -> None:
         objects = [json.loads(line) for line in self.lines(record(session(SENDING, [40])), "--from", 22, "--to", 25, "--json")]
-        self.assertEqual(
-            objects[1],
-            {
-                "count": 23,
-                "inputs": [],
-                "PC": 5,
-                "word": 0xA0100000,
-                "instruction": "STR R0, R1, 0",
-                "changed": {"PC": [5, 6]},
-                "memory": [],
-                "sent": [0x41],
-            },
-        )
+        one = {"count": 23, "inputs": [], "PC": 5, "word": 0xA0100000, "instruction": "STR R0, R1, 0", "changed": {"PC": [5, 6]}}
+        self.assertEqual(objects[1], {**one, "memory": [], "sent": [0x41]})
         self.assertEqual(objects[2]["memory"], [[400, 0, 0x41]])
         self.assertEqual(objects[0]["changed"], {"R0": [0, 0x41], "PC": [4, 5], "flags": [4, 0]})
 
@@ -116,13 +73,13 @@ class TraceTest(ToolTest):
         self.assertEqual(ran.errors, "galluspa trace: no stop in 0..40\n")
 
     def test_the_way_to_the_beginning_shows_progress(self) -> None:
-        recorded = self.file("it.orsr", record(session((0x40080001, 0xE7FFFFFE), [1 << 26])))
+        recorded = self.recorded((0x40080001, 0xE7FFFFFE), [1 << 26])
         told = on_terminal("trace", recorded, "--from", 60_000_000, "--steps", 1)
         self.assertIn(b"checking the recording\r", told)
         self.assertRegex(told, rb"at \d\d?,\d{3},\d{3} of 60,000,000\r\x1b\[K\r$")
 
     def test_shows_progress_on_a_terminal(self) -> None:
-        recorded = self.file("it.orsr", record(session(COUNTING, [3_000_000])))
+        recorded = self.recorded(COUNTING, [3_000_000])
         self.assertIn(b"searched 524,288 of 3,000,000\r", on_terminal("trace", recorded, "--until", "stop"))
         told = on_terminal("trace", recorded, "--until", "R5=1", "--to", 300)
         self.assertIn(b"searched 300 of 300\r\x1b[K\r", told)
@@ -161,9 +118,8 @@ class TraceTest(ToolTest):
     def test_the_run_is_the_machines_where_a_claim_is_false(self) -> None:
         row = "         2       0  45000001  MOV R5, 1"
         self.assertEqual(self.lines(rejoining(9), "--from", 2, "--to", 3), [row])
-        self.assertEqual(
-            self.lines(rejoining(9), "--at", 1, "--from", 2, "--to", 3), [f"{row}               R5 00000009 → 00000001"]
-        )
+        claimed = f"{row}               R5 00000009 → 00000001"
+        self.assertEqual(self.lines(rejoining(9), "--at", 1, "--from", 2, "--to", 3), [claimed])
 
     def test_what_is_written_is_what_changes(self) -> None:
         """Of random programs: whatever changes is among what an instruction is said to write."""
@@ -171,45 +127,12 @@ class TraceTest(ToolTest):
         for _ in range(6):
             kinds = (0, 0x40000000, 0x80000000, 0xA0000000, 0xF7000000)
             words = [source.choice(kinds) | source.getrandbits(28) & 0xFFF70FFF for _ in range(200)]
-            made = record(
-                {
-                    **session(words, [1]),
-                    "version": 2,
-                    "start": {"R": [source.getrandbits(19) for _ in range(16)], "H": 0, "PC": 0, "flags": 0, "rate": 0, "phase": 0},
-                }
-            )
+            registers = [source.getrandbits(19) for _ in range(16)]
+            start = {"R": registers, "H": 0, "PC": 0, "flags": 0, "rate": 0, "phase": 0}
+            made = record({**session(words, [1]), "version": 2, "start": start})
             for step in steps_of(made, 100):
                 changed = {f"R{at}" for at in range(16) if step.before.registers[at] != step.after.registers[at]}
                 changed |= {"H"} if step.before.h != step.after.h else set()
                 changed |= {"flags"} if step.before.flags != step.after.flags else set()
                 self.assertLessEqual(changed, step.written)
                 self.assertIn([word.address for word in step.changed], ([], [step.stored_at]))
-
-    def test_refuses_bad_input(self) -> None:
-        stored = self.file("stored.orsr", STORED)
-        self.assert_refused(tool("trace"), "RECORDING")
-        self.assert_refused(tool("trace", self.folder / "none"), "No such file")
-        self.assert_refused(tool("trace", self.file("short.orsr", STORED[:-1])), "refused 1 short at byte 9503")
-        self.assert_refused(tool("trace", stored, "--to", 5, "--steps", 5), "use --steps or --to")
-        self.assert_refused(tool("trace", stored, "--from", 6, "--to", 5), "--to 5 is before --from 6")
-        self.assert_refused(tool("trace", stored, "--at", 2), "no checkpoint 2")
-        self.assert_refused(tool("trace", stored, "--at", 1), "count 0 is before checkpoint 1, at 100")
-        self.assert_refused(tool("trace", stored, "--from", 101), "--from 101 is after the last checkpoint, which is at 100")
-        self.assert_refused(tool("trace", stored, "--from", (1 << 40) + 1), "'1099511627777' is not a whole number from 0 to ")
-        for words, told in (
-            (["write"], "write: expected a PLACE"),
-            (["R16=1"], "R16: expected PC=N"),
-            (["R1="], "R1: expected"),
-            (["x"], "x: expected"),
-            (["sent", "1", "R1"], "R1: expected"),
-            (["write", "1", "mask"], "mask: expected"),
-            (["PC=0x400000"], "PC 0x400000: a PC is below"),
-            (["flags=16"], "flags can have no bit but those of F "),
-        ):
-            self.assert_refused(tool("trace", stored, "--until", *words), told)
-
-    def test_refuses_what_is_no_library(self) -> None:
-        stored = self.file("stored.orsr", STORED)
-        self.assert_refused(tool("trace", stored, "--library", self.folder / "none"), "no library at")
-        self.assert_refused(tool("trace", stored, "--library", stored), "stored.orsr: no library of Galluspa")
-        self.assert_refused(tool("trace", stored, "--library", "/lib/x86_64-linux-gnu/libc.so.6"), "no library of Galluspa")

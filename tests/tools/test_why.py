@@ -5,30 +5,15 @@ import random
 from collections.abc import Sequence
 from dataclasses import replace
 
-from galluspa.analysis.origins import (
-    Elsewhere,
-    Bytes,
-    Constant,
-    Device,
-    Flags,
-    Initial,
-    Part,
-    Register,
-    Taken,
-    Unfollowed,
-    Value,
-    Written,
-    links_in,
-    origins,
-)
+from galluspa.analysis.origins import Bytes, Constant, Device, Elsewhere, Flags, Initial, Part, Register, Taken, Unfollowed, Value
+from galluspa.analysis.origins import Written, links_in, origins
 from galluspa.analysis.timeline import Timeline
 from galluspa.analysis.writers import Writers
 from tests.programs import randomly
 from tests.programs.trial import Case
 from tests.tools.frames import FramesTest
 from tests.tools.independent import Independent, Source
-from tests.tools.samples import EXAMPLES, JUMP, STORED, ToolTest, record, session, tool
-from tests.tools.test_find import run_of
+from tests.tools.samples import EXAMPLES, JUMP, ToolTest, record, run_of, session, tool
 
 LEDS = 0xFFFFC4
 
@@ -227,20 +212,3 @@ class CommandTest(FramesTest):
             ran = tool("why", self.recording, "--at", 2124, "--links", 1, *part.split())
             self.assertEqual(ran.status, 0, ran.errors)
             self.assertTrue(ran.output.decode().startswith(wanted), (part, ran.output))
-
-    def test_refuses_bad_input(self) -> None:
-        self.assert_helps("why")
-        stored = self.file("stored.orsr", STORED)
-        refused: Sequence[tuple[Sequence[object], str]] = (
-            (["R0", "--at", 101], "--at 101 is after the last checkpoint, which is at 100"),
-            (["R0", "--links", 0], "'0' is not a whole number from 1 to 200"),
-            (["R16"], "R16"),
-            (["page", 3], "page 3: expected R0 to R15, SP, LNK"),
-            (["0-7"], "0-7: expected R0 to R15"),
-            (["KEY"], "KEY: expected R0 to R15"),
-            (["0x100000"], "an address is below 100000"),
-            (["*(("], "expected an address"),
-            (["("] * 900, "expected"),
-        )
-        for words, told in refused:
-            self.assert_refused(tool("why", stored, *words), told)

@@ -8,8 +8,7 @@ from galluspa.analysis.lastwrites import first_change, last_change, last_write, 
 from galluspa.engine.tracing import Run, Step
 from galluspa.formats import states
 from tests.programs import randomly
-from tests.tools.samples import JUMP, ToolTest, record, session, tool
-from tests.tools.test_find import run_of
+from tests.tools.samples import JUMP, ToolTest, record, run_of, session, tool
 
 # R3 := 0, which is 0; R1 := 7 twice; R4 := R3 - 3; R2 := 5, which a word becomes twice; then a jump to itself.
 SAME = (0x43000000, 0x41000007, 0x41000007, 0x44390003, 0x42000005, 0xA2000190, 0xA2000190, JUMP)
@@ -87,7 +86,7 @@ class SameValueTest(ToolTest):
 
     def setUp(self) -> None:
         super().setUp()
-        self.recording = self.file("it.orsr", record(session(SAME, [8, 20])))
+        self.recording = self.recorded(SAME, [8, 20])
 
     def who(self, *places: str) -> list[str]:
         ran = tool("debug", self.recording, "--batch", "-ex", "at 8", *(word for it in places for word in ("-ex", f"who {it}")))
