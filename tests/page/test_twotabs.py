@@ -14,7 +14,6 @@ COPY = "This recording is open in another page: what you do here is kept as a co
 OPEN_THERE = "This project is open in another page, so it cannot be changed or deleted here."
 # What is open: what was written at the beginning of the source, what was sent, and the notes.
 OPEN = f"[{TEXT}.split('; Echo')[0].trim(), {SENT}, notes()]"
-RUNS = "[...document.querySelectorAll('#g-kept-list button')].filter((it) => it.textContent === 'Resume')"
 HEADS = "[...document.querySelectorAll('#g-kept-list > button')].filter((it) => it.textContent === 'Resume')"
 # Has the browser deny a page all that it could keep something in.
 DENY = """
@@ -96,15 +95,14 @@ def take_up(who: Person) -> None:
 
 
 def kept_of(who: Person) -> list[object]:
-    """Returns what is open of each run of the list, the older ones of a project too, once it is resumed."""
+    """Returns what is open of each project of the list once its last run is resumed."""
     who.page.wait(f"{HEADS}.length")
     found = []
-    for number in range(who.page.answer(f"{RUNS}.length")):
+    for number in range(who.page.answer(f"{HEADS}.length")):
         who.reload()
-        who.page.wait(f"{RUNS}[{number}]")
+        who.page.wait(f"{HEADS}[{number}]")
         who.press("#g-kept summary")
-        who.page.answer("document.querySelectorAll('#g-kept-list details').forEach((it) => (it.open = true))")
-        who.click_on(f"{RUNS}[{number}]")
+        who.click_on(f"{HEADS}[{number}]")
         who.page.wait(f"{WORD} === 'PAUSED' && {TEXT}.includes('MOV R1, KEY') && galluspa.source().isRunning && notes().length")
         found.append(who.page.answer(OPEN))
     who.reload()

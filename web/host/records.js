@@ -95,12 +95,13 @@ function unpackedMachine({ state, pages, words: some }) {
 
 // Reading
 
-/** Returns a machine with what came since its body was written, if that is of it.
- * @param {KeptRun} body
+/** Returns a machine with what came since its body was written, if that is of it. The source that it was run from is the one that the head names: that of a copy may have
+ * been written later than its body.
+ * @param {KeptRun} written
  * @param {RunHead} head
  * @returns {Kept} */
-function merged({ live: packed, ...body }, { by, since }) {
-  const live = packed ? unpackedMachine(packed) : null, begin = INPUT_BYTES * (since?.from ?? 0), known = body.inputs.length, { marks: before = [], until: end = body.count } = body;
+function merged({ live: packed, ran, ...rest }, { by, since, desk: { source } }) {
+  const live = packed ? unpackedMachine(packed) : null, body = ran ? { ...rest, ran: { ...ran, id: source || ran.id } } : rest, begin = INPUT_BYTES * (since?.from ?? 0), known = body.inputs.length, { marks: before = [], until: end = body.count } = body;
   if (!since || by !== body.by || begin > known || begin + since.inputs.length < known || since.until < end) return { ...body, live };
   const { inputs, marks, until, waiting } = since;
   return { ...body, live, inputs: joined([body.inputs.subarray(0, begin), inputs]), marks: [...before, ...marks], until, waiting };

@@ -225,9 +225,7 @@ export async function resumed(work, id, branchesOf) {
   let isFree = true;
   try {
     const read = opened ? work.recordsOf(opened) : await readItem(id, async () => (isFree = await work.take(id)));
-    const { head, body, isWritten } = { isWritten: false, ...read }, isOwn = isFree && isWritten, { family, number = 1, parent = 0, until: end, pinned: isPinned = false, desk } = head, { symbols, live } = body;
-    // A copy's source is another one than that which it was a copy of: the head says which.
-    const ran = body.ran && { ...body.ran, id: desk.source || body.ran.id };
+    const { head, body, isWritten } = { isWritten: false, ...read }, isOwn = isFree && isWritten, { family, number = 1, parent = 0, until: end, pinned: isPinned = false, desk } = head, { symbols, live, ran } = body;
     const others = await branchesOf(head), { generation, fork, program, ...answer } = await app.live.ask("resume", { kept: { ...body, family }, isKeptOn: isFree });
     Object.assign(work, { name: nameIn(head), generation, fork, program, family, number, parent, end, ran, isPinned, by: body.by, kept: "", base: null, left: null, opened: null, unshown: { symbols } });
     // Without its state a machine is at its last checkpoint, and what it sent later comes again.
