@@ -243,6 +243,7 @@ class RefusalsTest(ToolTest):
             rows = [Row(words, 3, told.format(name=name), shell) for words, name in lines[:most]]
             self.assert_told([it for it in rows if it.words[0] not in ("live", "shrink") or "prlimit" not in shell])
         self.assert_told([Row(words, 3, f"{name}: standard output: Broken pipe") for words, name in lines[:6]], broken)
+        self.assert_told([Row(words, 3, "", '"$@" 2>&1') for words, _ in lines[:6]], broken)
 
     def test_a_closed_standard_input_is_an_empty_one(self) -> None:
         rows = [Row([name, *words], 0, "", '"$@" <&-') for name, words, _ in self.lines()]

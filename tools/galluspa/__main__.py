@@ -1,12 +1,13 @@
 """The command `galluspa`: as a script of a clone, as `python3 -m galluspa`, and as pip installs it with the program."""
 
-import os
-import signal
-import sys
-from typing import NoReturn
+# An interrupt before the command has begun ends it without a traceback; once it runs, `run` sees to it. (The module `signal` imports others, which takes longer.)
+import _signal
 
-# An interrupt before the command has begun ends it without a traceback; once it runs, `run` sees to it.
-signal.signal(signal.SIGINT, signal.SIG_DFL)
+_signal.signal(_signal.SIGINT, _signal.SIG_DFL)
+
+import os  # noqa: E402
+import sys  # noqa: E402
+from typing import NoReturn  # noqa: E402
 
 from galluspa.commands import NAME, main  # noqa: E402
 from galluspa.process import cli, paths  # noqa: E402

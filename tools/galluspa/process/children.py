@@ -58,6 +58,11 @@ def stop(number: int) -> None:
         raise _signalled
 
 
+def signalled() -> Signalled | None:
+    """Returns the signal that ends the tool, if one does."""
+    return _signalled
+
+
 def begin_anew(parent: int) -> None:
     """Clears, in a forked process, the children of its parent, and ends it when its parent ends. Raises `Signalled` if it is
     told to end already."""

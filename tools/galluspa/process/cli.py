@@ -206,8 +206,15 @@ def complain(message: str) -> None:
     progress("")
     name = _Running.name or printable(Path(sys.argv[0]).name)
     # If standard error cannot be written either, only the exit status says that the tool failed.
-    with contextlib.suppress(OSError):
+    try:
         print(f"{name}: {printable(message)}", file=sys.stderr, flush=True)
+    except OSError:
+        _drop(2)
+
+
+def _drop(descriptor: int) -> None:
+    """Drops what is left for a standard stream that cannot be written: else Python tries it again when it ends, and ends with a status of its own."""
+    os.dup2(os.open(os.devnull, os.O_WRONLY), descriptor)
 
 
 def write_file(path: str | Path, content: bytes) -> None:
@@ -308,26 +315,37 @@ def run(main: Callable[[Sequence[str]], int]) -> NoReturn:
     for number in SIGNALS:
         signal.signal(number, _end)
     try:
-        _open_streams()
-        status = main(sys.argv[1:])
-    except children.Signalled as signalled:
+        status = _flushed(_status(main))
+    except BaseException:
+        # Code that a signal interrupts may raise another exception in place of that of the signal.
+        if (signalled := children.signalled()) is None:
+            raise
         progress("")
-        status = signalled.status
+        status = _flushed(signalled.status)
+    for number in SIGNALS:
+        signal.signal(number, signal.SIG_IGN)
+    sys.exit(status)
+
+
+def _status(main: Callable[[Sequence[str]], int]) -> int:
+    """Returns the status of a tool. It says in a line what is refused, and what failed."""
+    try:
+        _open_streams()
+        return main(sys.argv[1:])
     except SystemExit as asked_for_help:
-        status = asked_for_help.code if isinstance(asked_for_help.code, int) else OK
+        return asked_for_help.code if isinstance(asked_for_help.code, int) else OK
     except (Failed, TimeIsUp) as failure:
         complain(str(failure))
-        status = FAILED
+        return FAILED
     except Refused as refusal:
         complain(str(refusal))
-        status = REFUSED
+        return REFUSED
     except MemoryError:
         complain("no memory")
-        status = FAILED
+        return FAILED
     except OSError as error:
         complain(f"{error.filename or 'standard output'}: {_why(error)}")
-        status = REFUSED if error.errno == errno.ENAMETOOLONG else FAILED
-    sys.exit(_flushed(status))
+        return REFUSED if error.errno == errno.ENAMETOOLONG else FAILED
 
 
 def _end(number: int, frame: FrameType | None) -> None:
@@ -377,8 +395,7 @@ def _flushed(status: int) -> int:
         sys.stdout.flush()
         return status
     except OSError as error:
-        # What is left is not tried again when Python ends.
-        os.dup2(os.open(os.devnull, os.O_WRONLY), 1)
+        _drop(1)
         if status not in (FAILED, *(128 + it for it in SIGNALS)):
             complain(f"standard output: {_why(error)}")
         return max(status, FAILED)
