@@ -13,8 +13,8 @@ from galluspa.formats.symbols import NONE, Symbols
 OFFSET_BITS = 22
 # The four highest bits of a call by an offset, whatever its condition.
 CALL_BY_OFFSET = 15
-# The highest eight bits of a branch to a register's address, which is how a procedure ends.
-RETURN = 0xC7
+# The highest eight bits of a branch that is always taken and makes no call: to a register's address, as a return, and by an offset.
+AWAY = (0xC7, 0xE7)
 # The most places in a line that says who called.
 MOST_NAMED = 16
 
@@ -25,8 +25,8 @@ def is_call(word: int) -> bool:
 
 
 class Entries:
-    """Where the procedures of a memory begin: where calls by an offset go to, and at names of code that come after a return or
-    after data."""
+    """Where the procedures of a memory begin: where calls by an offset go to, and at names of code that come after a branch that is
+    always taken, or after data. A name `X.y.z` in a procedure `X.y` is a label of that, and begins none."""
 
     def __init__(self, words: Sequence[int], symbols: Symbols = NONE) -> None:
         """The words of the memory."""
@@ -38,10 +38,22 @@ class Entries:
         """Returns the addresses at which procedures begin, in rising order."""
         calls = [at for at, word in enumerate(self._words) if word >> 28 == CALL_BY_OFFSET]
         words, symbols = self._words, self._symbols
-        named = symbols.begins()
-        ended = [at for at in named if not at or words[at // 4 - 1] >> 24 == RETURN]
-        after_data = [at for at in named if symbols.is_data(at - 4)] if symbols.has_data else []
-        return sorted({*(4 * ((at + 1 + words[at]) % (1 << OFFSET_BITS)) for at in calls), *ended, *after_data})
+        called = {4 * ((at + 1 + words[at]) % (1 << OFFSET_BITS)) for at in calls}
+        apart = {
+            at
+            for at in symbols.begins()
+            if not at or words[at // 4 - 1] >> 24 in AWAY or symbols.has_data and symbols.is_data(at - 4)
+        }
+        begins = list[int]()
+        for at in sorted(called | apart):
+            if at in called or not (begins and self._is_label(at, begins[-1])):
+                begins.append(at)
+        return begins
+
+    def _is_label(self, at: int, begin: int) -> bool:
+        """Returns whether the name of an address is that of a label in the procedure that begins before it: `X.y.z` in `X.y`."""
+        name = self._symbols.text(begin)
+        return "." in name and self._symbols.text(at).startswith(f"{name}.")
 
     def entry_of(self, at: int) -> int | None:
         """Returns where the procedure begins that an address is in; None if none begins before it."""

@@ -1,7 +1,8 @@
 """Says to which procedure, module and source line each word of a program belongs, by its symbol file and its calls.
 
-A procedure begins where a call by an offset goes to, and at a name of code that comes after a return or after data:
-as `galluspa trace --calls` has it. Without names, its name is its address.
+A procedure begins where a call by an offset goes to, and at a name of code that comes after a branch that is always taken, or
+after data, unless that is a label of the procedure before: as `galluspa trace --calls` has it. Without names, its name is its
+address.
 """
 
 from collections.abc import Sequence
