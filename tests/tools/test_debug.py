@@ -205,6 +205,12 @@ class CommandsTest(FramesTest):
         self.assertEqual(next(it for it in lines[3] if it.startswith("=>")).split()[1], "60")
         self.assertTrue(lines[10][0].startswith("#0  "), lines[10])
 
+    def test_the_procedure_of_the_selected_frame_is_finished(self) -> None:
+        lines = self.printed("at 2124; frame 1; finish; at 2124; frame 2; reverse-finish; at 2124; frame 3; finish")
+        self.assertEqual(lines[2][0], "the procedure that was called at 1,874 has returned")
+        self.assertEqual(lines[5][0].split()[:2], ["4", "75"])
+        self.assertEqual(lines[8], ["3 calls are open at count 2,124"])
+
     def test_a_pause_in_an_inner_call_is_no_return(self) -> None:
         """Rec calls itself three times; each inner call comes back to Back, too."""
         path = self.assembled(REC, "rec")

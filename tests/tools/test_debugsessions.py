@@ -99,10 +99,10 @@ class Model:
             if paused or self.count == to:
                 return
 
-    def backward(self, to: int = 0) -> None:
-        """Runs back to the point before, or down to a count."""
+    def backward(self) -> None:
+        """Runs back to the point before, or to the beginning."""
         self.paused = []
-        while self.count > to:
+        while self.count > 0:
             self.count -= 1
             if self.is_running(self.count) and (self.holding(True, self.count) or self.holding(False, self.count)):
                 if self.meet(self.count, self.count):
@@ -197,8 +197,11 @@ class Session:
             if not model.meet(None, 0):
                 model.forward()
 
-        def go(model: Model) -> None:
-            model.count, model.paused = count, []
+        def go_to(count: int) -> Callable[[Model], None]:
+            def go(model: Model) -> None:
+                model.count, model.paused = count, []
+
+            return go
 
         moves: list[tuple[str, Callable[[Model], None]]] = [
             ("continue", lambda model: model.forward()),
@@ -206,8 +209,8 @@ class Session:
             ("reverse-continue", lambda model: model.backward()),
             ("run", run),
             (f"stepi {number}", lambda model: model.forward(model.count + number)),
-            (f"reverse-stepi {number}", lambda model: model.backward(max(model.count - number, 0))),
-            (f"at {count}", go),
+            (f"reverse-stepi {number}", lambda model: go_to(max(model.count - number, 0))(model)),
+            (f"at {count}", go_to(count)),
         ]
         return rng.choice(moves)
 

@@ -27,8 +27,8 @@ from galluspa.process.timelimit import TimeIsUp
 
 # The most bytes of a file of commands.
 MOST_BYTES = 1 << 20
-# Where words end for the completion: names have dots, signs and dashes in them.
-BETWEEN = " \t\n"
+# Where words end for the completion: names have dots, signs and dashes in them; &NAME and *NAME are expressions.
+BETWEEN = " \t\n&*("
 
 
 def parser() -> Parser:

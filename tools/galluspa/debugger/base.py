@@ -48,6 +48,10 @@ class Base:
         """Yields what is shown wherever the machine pauses."""
         yield from ()
 
+    def frame_number(self) -> int:
+        """Returns the number of the selected frame, which is 0 where the machine is."""
+        return 0
+
     def open_call(self, number: int) -> Call:
         """Returns one of the calls that are open, of which the last one has number 1. Raises Refused if there are fewer."""
         stack = self.debugger.stack

@@ -130,8 +130,8 @@ COMMANDS = (
     Command("reverse-stepi", ("rsi",), "[N]", "go N instructions back", Commands.step_instruction_back, True),
     Command("nexti", ("ni",), "[N]", "do N instructions, and what they call", Commands.next_instruction, True),
     Command("reverse-nexti", ("rni",), "[N]", "nexti, but backward", Commands.next_instruction_back, True),
-    Command("finish", ("fin",), "", "run until the procedure returns to its caller", Commands.finish),
-    Command("reverse-finish", (), "", "go back to the call of the procedure", Commands.finish_back),
+    Command("finish", ("fin",), "", "run until the procedure of the selected frame returns to its caller", Commands.finish),
+    Command("reverse-finish", (), "", "go back to the call of the procedure of the selected frame", Commands.finish_back),
     Command("advance", (), "LOCATION", "run to an instruction", Commands.advance),
     Command(
         "until", ("u",), "[LOCATION]", "the same as next, but past a loop; with LOCATION, the same as advance", Commands.until, True

@@ -3,7 +3,7 @@
 from collections.abc import Callable, Iterator
 
 from galluspa.debugger.base import Base, nothing, times
-from galluspa.debugger.navigation import THE_END, Pause, Point
+from galluspa.debugger.navigation import THE_BEGINNING, THE_END, Pause, Point
 from galluspa.process.cli import Refused, number
 
 
@@ -79,13 +79,14 @@ class Moves(Base):
     def step_instruction_back(self, text: str) -> Iterator[str]:
         """Goes N instructions back."""
         debugger = self.debugger
-        yield from self.moved(debugger.go_back(max(debugger.count - times(text), 0)))
+        debugger.at(max(debugger.count - times(text), 0))
+        yield from self.moved(Pause([] if debugger.count else [THE_BEGINNING]))
 
     def finish(self, text: str) -> Iterator[str]:
-        """Runs until the procedure returns."""
+        """Runs until the procedure of the selected frame returns."""
         nothing(text)
-        debugger = self.debugger
-        call, depth = self.open_call(1), len(debugger.stack)
+        debugger, frame = self.debugger, self.frame_number()
+        call, depth = self.open_call(frame + 1), len(debugger.stack) - frame
         pause = debugger.leave(depth)
         has_ended = call not in debugger.stack[depth - 1 : depth]
         state = debugger.machine.state
@@ -94,9 +95,9 @@ class Moves(Base):
         yield from self.moved(Pause([*([said] if has_ended else []), *pause.reasons], pause.seen))
 
     def finish_back(self, text: str) -> Iterator[str]:
-        """Goes back to the call of the procedure."""
+        """Goes back to the call of the procedure of the selected frame."""
         nothing(text)
-        self.debugger.at(self.open_call(1).count)
+        self.debugger.at(self.open_call(self.frame_number() + 1).count)
         yield from self.here()
 
     def advance(self, text: str) -> Iterator[str]:

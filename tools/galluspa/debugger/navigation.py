@@ -275,22 +275,20 @@ class Debugger:
 
     # Moves backward
 
-    def go_back(self, to: int = 0) -> Pause:
-        """Runs backward to the point before, or down to a count."""
+    def go_back(self) -> Pause:
+        """Runs backward to the point before, or to the beginning."""
         self.paused.clear()
-        while (pause := self._previous(to)) is None:
+        while (pause := self._previous()) is None:
             pass
         return pause
 
-    def _previous(self, to: int) -> Pause | None:
+    def _previous(self) -> Pause | None:
         """Runs in the same way; None if all points there are to be ignored."""
-        if self.count <= to:
-            return Pause([THE_BEGINNING])
         points = sorted(self.enabled, key=lambda it: it.is_after)
-        hit = self.last(conditions_in(points), to, self.count) if points else None
+        hit = self.last(conditions_in(points), 0, self.count) if points and self.count else None
         if not hit:
-            self.at(to)
-            return Pause([THE_BEGINNING] if to == 0 else [])
+            self.at(0)
+            return Pause([THE_BEGINNING])
         point = next(it for it in points if it.is_of(hit.condition))
         self.at(hit.count)
         reasons = [*self._watched(point, hit.count), *self.breaks([point])]

@@ -128,7 +128,7 @@ class Views(Displays, Listings):
 
     def frame(self, text: str) -> Iterator[str]:
         """Selects a frame by its number, which backtrace shows, and shows it; without a number, the one that is selected."""
-        number = literal(text) if text else self._selected()
+        number = literal(text) if text else self.frame_number()
         if number is None:
             raise Refused(f"{shown(text)}: expected frame N, with the number of a frame, which backtrace lists")
         if number > len(self.debugger.stack):
@@ -137,13 +137,13 @@ class Views(Displays, Listings):
 
     def up(self, text: str) -> Iterator[str]:
         """Selects the frame of a caller."""
-        return self._select(self._selected() + times(text))
+        return self._select(self.frame_number() + times(text))
 
     def down(self, text: str) -> Iterator[str]:
         """Selects the frame of what the selected one calls."""
-        return self._select(max(self._selected() - times(text), 0))
+        return self._select(max(self.frame_number() - times(text), 0))
 
-    def _selected(self) -> int:
+    def frame_number(self) -> int:
         """Returns the number of the selected frame, which is 0 once the machine has moved."""
         return self.selected[1] if self.selected[0] == self.debugger.count else 0
 
@@ -157,7 +157,7 @@ class Views(Displays, Listings):
 
     def selected_word(self) -> int:
         """Returns the word of the selected frame: where the machine is, or a call."""
-        return self._frame_place(self._selected())[0]
+        return self._frame_place(self.frame_number())[0]
 
     def _frame_place(self, number: int) -> tuple[int, int]:
         """Returns the word of a frame, and its count: where the machine is, or the branch of an open call."""
