@@ -158,6 +158,12 @@ class EventsTest(RerunsTest):
         )
         self.assertEqual((read.checkpoints[1].output, [it.count for it in read.events]), (b"ab", [3, 3]))
 
+    def test_what_was_sent_while_a_text_was_typed_counts(self) -> None:
+        source = ECHO + '        input 0, key, "abcabd"\n'
+        read = self.resolved({"key": "xyz"}, {"look": "it", "when": {"sends": "xy"}}, {"look": "end"}, image=source)
+        at, typed = read.checkpoints[1].count, read.events[-1].count
+        self.assertEqual((at, read.checkpoints[1].output[-2:]), (typed + 1, b"xy"))
+
     def test_an_input_may_come_at_a_count_and_a_look_sees_the_instruction_after_it(self) -> None:
         read = self.resolved(
             {"when": {"count": 10}, "key": "H"}, {"when": {"count": 5}, "mouse": [3, 2, 4]}, {"when": {"count": 1}, "look": "it"}

@@ -13,7 +13,7 @@ from galluspa.analysis.drawing import Mask
 from galluspa.formats.screens import picture
 from galluspa.suites.approvals import dots_differing, pbm_of
 from tests.tools import browser
-from tests.tools.samples import EXAMPLES, JUMP, STORED, session, tool
+from tests.tools.samples import EXAMPLES, GALLUSPA, JUMP, STORED, run, session, tool
 from tests.tools.test_rerun import ECHO, LONGER, RerunsTest, script
 
 
@@ -236,6 +236,27 @@ class RefusalTest(RerunsTest):
         (self.folder / "made/it.orsr").symlink_to("/dev/full")
         told = self.answers("--recordings", self.folder / "made", "--approve", status=3)
         self.assertEqual(told, [f"{self.folder}/made/it.orsr: No space left on device"])
+
+    def test_what_is_approved_is_written_whole_or_not(self) -> None:
+        self.file("tests/it.json", (EXAMPLES / "keys.json").read_bytes())
+        cut = ("prlimit", "--fsize=100", GALLUSPA, "rerun", self.tests, "--approve")
+        ran = run(cut)
+        self.assertEqual(
+            (ran.status, b"File too large" in ran.output, list(self.tests.iterdir())), (3, True, [self.tests / "it.json"])
+        )
+        self.rerun("--approve")
+        before = {it.name: it.read_bytes() for it in (self.tests / "it.approved").iterdir()}
+        self.file("tests/it.json", (EXAMPLES / "snake.json").read_bytes())
+        self.assertEqual(run(cut).status, 3)
+        self.assertEqual({it.name: it.read_bytes() for it in (self.tests / "it.approved").iterdir()}, before)
+
+    def test_the_image_of_a_script_is_a_stored_session_only_if_it_is_approved(self) -> None:
+        self.file("tests/image.json", (EXAMPLES / "keys.json").read_bytes())
+        (self.tests / "suite").mkdir()
+        self.file("tests/suite/it.rerun.json", script({"look": "it"}, image="../image.json"))
+        self.assertIn("1..1", self.rerun("--approve"))
+        (self.tests / "image.approved").mkdir()
+        self.assertIn("1..2", self.rerun(status=1))
 
     def test_a_limit_of_time(self) -> None:
         self.file("tests/it.rerun.json", script({"look": "it", "when": {"sends": "x"}}, image="image.json", patience=1 << 39))

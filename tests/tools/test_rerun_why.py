@@ -110,6 +110,10 @@ class WhyTest(RerunsTest):
         self.approve(old)
         self.assertTrue((self.tests / "it.approved/it.mask.png").is_file())
         self.told("--image", sooner, status=0)
+        self.file("tests/it.rerun.json", script({"key": "H"}, LOOK, mask=["Caret", "Main"]))
+        self.assertIn(
+            b"(1 look, 1 byte sent; Main of a mask is never called)", tool("rerun", self.tests, "--image", old, "--approve").output
+        )
         self.file("tests/it.rerun.json", script({"key": "H"}, {"look": "it", "when": {"count": 5000}}))
         self.approve(sooner)
         self.assertEqual(sorted(it.name for it in (self.tests / "it.approved").iterdir()), ["it.png", "looks.txt", "sent.txt"])

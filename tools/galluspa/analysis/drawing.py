@@ -112,6 +112,8 @@ class OpenCounts:
         """`procedures` are the numbers of their first words."""
         self._follower = Follower(library, Inputs(()), start.copy())
         self._procedures = frozenset(procedures)
+        # Those that were called.
+        self.called: set[int] = set()
         self._begins: list[int] = []
         self._ends: list[int] = []
         # Which of the open calls is the outermost one of a procedure; None if none is.
@@ -126,7 +128,10 @@ class OpenCounts:
             if self._outermost is not None and turn.stay <= self._outermost:
                 self._ends.append(turn.count)
                 self._outermost = None
-            if self._outermost is None and turn.at != NO_CALL and turn.to in self._procedures:
+            if turn.at == NO_CALL or turn.to not in self._procedures:
+                continue
+            self.called.add(turn.to)
+            if self._outermost is None:
                 self._begins.append(turn.count)
                 self._outermost = turn.stay
 
@@ -155,14 +160,14 @@ class Drawn:
     def __init__(self, library: Library, start: Machine, procedures: Iterable[int]) -> None:
         self._library = library
         self._machine = start.copy()
-        self._open = OpenCounts(library, start, procedures)
+        self.open = OpenCounts(library, start, procedures)
         self._mask = Mask()
 
     def up_to(self, inputs: Inputs, to: int) -> Mask:
         """Returns these dots up to a count."""
         first = self._machine.copy()
-        self._open.follow(inputs, to)
-        counts: Sequence[int] = [it for it in screen_changes(self._library, self._machine, inputs, to) if self._open.has(it)]
+        self.open.follow(inputs, to)
+        counts: Sequence[int] = [it for it in screen_changes(self._library, self._machine, inputs, to) if self.open.has(it)]
         for raw in steps_at(self._library, first, inputs, counts):
             if raw.change:
                 address, old, new = raw.change

@@ -16,7 +16,7 @@ from galluspa.analysis.drawing import Dots, dots_differing
 from galluspa.formats.screens import HEAD, HEADER, HEIGHT, WIDTH, picture
 from galluspa.formats import states
 from galluspa.formats.scripts import LOOK_NAME
-from galluspa.process.cli import Refused, make_folder, read_file, with_libraries, write_file
+from galluspa.process.cli import Refused, read_file, with_libraries, write_files
 from galluspa.process.escapes import printable
 from galluspa.suites.reruns import Rerun, Seen
 
@@ -106,16 +106,14 @@ def _keep_inside(path: Path, top: Path) -> None:
 def write(folder: Path, top: Path, ran: Rerun, before: Approved | None) -> None:
     """Writes what a run shows as golden files, and removes the pictures of looks that it does not have any more."""
     _keep_inside(folder, top)
-    make_folder(folder)
     contents = {SENT: text_of(ran.sent).encode(), LOOKS: "".join(f"{line}\n" for it in ran.looks for line in it.lines).encode()}
     contents |= {f"{look.name}.png": look.screen for look in ran.looks}
     contents |= {f"{look.name}{MASK_SUFFIX}": picture(HEADER + look.drawn) for look in ran.looks if look.drawn}
-    for name, content in contents.items():
+    for name in contents:
         _keep_inside(folder / name, top)
-        # A pipe that exists may have no reader.
         if (folder / name).exists() and not (folder / name).is_file():
             raise Refused(f"{folder.name}/{name}: not a file")
-        write_file(folder / name, content)
+    write_files(folder, contents)
     for look in before.looks if before else ():
         for name in {f"{look}.png", f"{look}{MASK_SUFFIX}"} - contents.keys():
             _remove(folder / name)

@@ -7,6 +7,7 @@ from galluspa.engine.library import Library
 from galluspa.formats.builds import tell_misfit
 from galluspa.formats.recording import MEMORY_BYTES
 from galluspa.process.cli import Refused
+from galluspa.process.escapes import printable
 from galluspa.process.timelimit import Limit, TimeIsUp
 from galluspa.suites import approvals
 from galluspa.suites.approvals import Approved, Differences
@@ -127,4 +128,5 @@ def told(found: Differences) -> str:
 def size(ran: Rerun) -> str:
     """Returns how much there is to see of a run."""
     looks, sent = len(ran.looks), len(ran.sent)
-    return f"{looks} {'look' if looks == 1 else 'looks'}, {sent:,} {'byte' if sent == 1 else 'bytes'} sent"
+    nothing = f"; {printable(', '.join(ran.uncalled))} of a mask is never called" if ran.uncalled else ""
+    return f"{looks} {'look' if looks == 1 else 'looks'}, {sent:,} {'byte' if sent == 1 else 'bytes'} sent{nothing}"

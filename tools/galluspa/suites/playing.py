@@ -63,6 +63,8 @@ class Playing:
 
     def __post_init__(self) -> None:
         self.start = self.machine.copy()
+        # The machine where the event before began, as a text does with its first byte, and which event of the script that is.
+        self._before, self._begun = -1, self.start
         self._open: dict[tuple[int, ...], OpenCounts] = {}
 
     def play(self, event: Input | Look) -> None:
@@ -78,6 +80,8 @@ class Playing:
         if count > COUNTS or len(self.looks) > CHECKPOINTS or len(self.inputs) > INPUTS:
             raise Refused(f"a session has at most {CHECKPOINTS:,} looks and {INPUTS:,} inputs, up to count {COUNTS:,}")
         self.last = count
+        if event.at != self._before:
+            self._before, self._begun = event.at, self.at(count)
 
     def find(self, event: Input | Look) -> int:
         """Returns the count of the next event, which is not added. Raises Never if it does not come."""
@@ -89,7 +93,7 @@ class Playing:
             return max(self._of_number(event, begin), least)
         end = begin + self.script.patience
         if when.member == SENDS_TEXT:
-            return max(self._sent(when.value.encode("latin-1"), begin, end), least)
+            return max(self._sent(when.value.encode("latin-1"), max(self._begun.count, when.first), end), least)
         # Counts are searched up to one that is not among them.
         if when.member == POLLS:
             return max(self._polled(when.value, after, end + 1), least)
@@ -110,17 +114,17 @@ class Playing:
     def _advance(self, to: int) -> None:
         """Takes the machine up to a count, if it is not there yet, with the inputs on the way."""
         if self.machine.count < to:
-            self.library.advance(self.machine, Inputs(self._pending()), to)
+            self.library.advance(self.machine, self._pending(self.machine), to)
 
-    def _pending(self) -> Sequence[Event]:
-        """Returns the inputs that the machine has not taken yet: the last ones."""
+    def _pending(self, machine: Machine) -> Inputs:
+        """Returns the inputs that a machine has not taken yet: the last ones."""
         first = len(self.inputs)
-        while first and self.inputs[first - 1].count >= self.machine.count:
+        while first and self.inputs[first - 1].count >= machine.count:
             first -= 1
-        return self.inputs[first:]
+        return Inputs(self.inputs[first:])
 
     def _ahead(self) -> RunFrom:
-        return RunFrom(self.library, self.machine, Inputs(self._pending()))
+        return RunFrom(self.library, self.machine, self._pending(self.machine))
 
     def _found(self, conditions: Sequence[Condition], first: int, end: int) -> int:
         """Returns the first count from one up to another at which a condition holds; the machine goes there."""
@@ -177,13 +181,16 @@ class Playing:
     def mask(self, event: Input | Look) -> tuple[Mask, tuple[int, ...]]:
         """Returns the rectangles of the screen that do not count for an event, and the first words of the procedures of which
         nothing that they draw counts. Raises Refused for a name that is none of a procedure."""
-        mask, procedures = Mask(), list[int]()
+        mask = Mask()
         for part in self.script.mask_of(event):
-            if isinstance(part, str):
-                procedures.append(self._procedure(event, part))
-            else:
+            if not isinstance(part, str):
                 mask.add(*part)
-        return mask, tuple(procedures)
+        return mask, tuple(self.procedures(event).values())
+
+    def procedures(self, event: Input | Look) -> dict[str, int]:
+        """Returns the first words of the procedures of which nothing that they draw counts for an event, by their names. Raises
+        Refused for a name that is none of a procedure."""
+        return {part: self._procedure(event, part) for part in self.script.mask_of(event) if isinstance(part, str)}
 
     def _procedure(self, event: Input | Look, name: str) -> int:
         """Returns the first word of a procedure."""
@@ -199,9 +206,9 @@ class Playing:
         return address // 4
 
     def _sent(self, text: bytes, first: int, end: int) -> int:
-        """Returns the first count up to which the instructions from one on sent a text."""
-        self._advance(first)
-        run, sent, steps = self._ahead(), b"", FIRST_STEPS
+        """Returns the first count up to which the instructions from one on sent a text; the one may be before the machine's."""
+        begun = self._begun
+        run, sent, steps = RunFrom(self.library, begun, self._pending(begun)), b"", FIRST_STEPS
         machine = run.machine(first)
         while machine.count < end and not machine.state.stop:
             before = machine.copy()

@@ -58,13 +58,14 @@ class Ended:
 @dataclass(frozen=True)
 class Rerun:
     """A run of a script: its recording, what is seen at its looks, all bytes sent, whether it has inputs, and why it ended
-    early, if it did."""
+    early, if it did; and which procedures that masks name are never called."""
 
     text: bytes
     looks: Sequence[Seen]
     sent: bytes
     has_inputs: bool = False
     ended: Ended | None = None
+    uncalled: Sequence[str] = ()
 
     @property
     def never(self) -> str:
@@ -116,7 +117,9 @@ class Rerunner:
                 drawing = drawn.setdefault(procedures, Drawn(self.library, Machine.claimed(read, 0), procedures))
                 by_names = drawing.up_to(Inputs(read.events), claim.count)
             looks.append(self._seen(read, claim, look, symbols, script, mask, by_names))
-        return Rerun(text, looks, sent, bool(playing.inputs), ended)
+        called = {at for it in drawn.values() for at in it.open.called}
+        named = {part: at for _, look in taken for part, at in playing.procedures(look).items()}
+        return Rerun(text, looks, sent, bool(playing.inputs), ended, [part for part, at in named.items() if at not in called])
 
     def _play(self, playing: Playing, event: Input | Look, origin: str) -> None:
         """Finds the count of the next event. Raises Never if it does not come."""

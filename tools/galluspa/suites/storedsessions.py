@@ -15,7 +15,7 @@ from galluspa.formats.symbolfiles import symbols_for
 from galluspa.formats.symbols import NONE, Symbols
 from galluspa.process.cli import Refused, read_file
 from galluspa.process.escapes import printable
-from galluspa.suites.approvals import stem_of
+from galluspa.suites.approvals import folder_of, stem_of
 from galluspa.suites.cases import Case
 
 # The files that are stored sessions, the first of a name before the others; and what a session has in it.
@@ -90,7 +90,7 @@ class Shelf:
             raise Refused("the script names no image: name one with --image")
         own = path.parent / script.image
         if not Path(os.path.realpath(own)).is_relative_to(self.top):
-            raise Refused("the image of the script is outside the folder of the suite")
+            raise Refused("the image of the script is outside the folder of the suite: name a folder that has both")
         if not own.is_file():
             raise Refused(f"{script.image}: no such file, which the script names as its image")
         stored = session_of(program, script.image, read_file(own, LONGEST_SESSION + 1))
@@ -99,26 +99,34 @@ class Shelf:
     def find_names(self, cases: Sequence[Case]) -> None:
         """Reads the symbol files beside the images that scripts name, if no other image is given."""
         for case in cases:
-            if self.image or self.symbols or case.fault or not case.path.name.endswith(scripts.SUFFIX):
-                continue
-            try:
-                name = scripts.read(read_file(case.file, scripts.MOST_BYTES + 1)).image
-            except Refused:
-                continue
-            own = case.path.parent / (name or "")
-            if name and own not in self._names and Path(os.path.realpath(own)).is_relative_to(self.top):
+            own = None if self.image or self.symbols or case.fault else image_beside(case.path)
+            if own and own not in self._names and Path(os.path.realpath(own)).is_relative_to(self.top):
                 self._names[own] = symbols_for(None, own)
+
+
+def image_beside(path: Path) -> Path | None:
+    """Returns the file that a script names as its image; None if it names none, or is no script."""
+    try:
+        name = (
+            scripts.read(read_file(path, scripts.MOST_BYTES + 1, is_regular=True)).image
+            if path.name.endswith(scripts.SUFFIX)
+            else None
+        )
+    except Refused:
+        return None
+    return path.parent / name if name else None
 
 
 def cases_of(path: Path, expected: str) -> tuple[list[Case], list[str]]:
     """Returns the stored sessions under a folder by their names, or that in a file, and the names of the .json files that are no
-    sessions."""
+    sessions. The image that a script names is a stored session only if something is approved of it."""
     if path.is_file():
         return [Case(printable(path.name), path, expected)], []
     if not path.is_dir():
         raise Refused(f"{path}: neither a folder nor a file")
     there = [it for it in path.rglob("*") if it.name.endswith(SUFFIXES) and not it.is_dir()]
-    order = sorted(there, key=lambda it: (it.parent, stem_of(it), _rank(it)))
+    images = {os.path.realpath(image) for it in there if (image := image_beside(it)) and not folder_of(image).is_dir()}
+    order = sorted((it for it in there if os.path.realpath(it) not in images), key=lambda it: (it.parent, stem_of(it), _rank(it)))
     cases, others, last = list[Case](), list[str](), None
     for it in order:
         name, own = printable(str(it.relative_to(path))), it.with_name(stem_of(it))
