@@ -202,9 +202,10 @@ enum {
  * are in their ranges.
  *
  * A call does some 80 to 120 million steps a second where few instructions concern a condition, some 30 million where each third
- * one does, and far more where the machine waits, since it passes over the iterations of an idle loop. Cut a long range into calls
- * of some millions of steps each, and advance the state between them. A call copies the memory, and holds at most some 2.3 MB, 4 KB
- * for each page with code that runs, and 16 bytes for each input. */
+ * one does, some 20 million with GALLUSPA_IS or GALLUSPA_IS_WORD, which concern all, and 2 to 3 million with 64 of these; and far more
+ * where the machine waits, since it passes over the iterations of an idle loop. With GALLUSPA_LAST it does each iteration in which a
+ * condition holds. Cut a long range into calls of some millions of steps each, and advance the state between them. A call copies the
+ * memory, and holds at most some 2.3 MB, 4 KB for each page with code that runs, and 16 bytes for each input. */
 uint8_t galluspa_find(const galluspa_state *state, const uint32_t *words, size_t words_len, const galluspa_input *inputs,
                       size_t inputs_len, uint64_t to, const galluspa_condition *conditions, size_t conditions_len, uint32_t wanted,
                       galluspa_hit *hit);
@@ -236,8 +237,9 @@ uint8_t galluspa_hits(galluspa_state *state, uint32_t *words, size_t words_len, 
  * All numbers are tested before anything is allocated, so GALLUSPA_OUT_OF_MEMORY means that they are in their ranges.
  *
  * A call runs at some 70 to 95 % of the speed of galluspa_advance on programs that work, and counts the iterations of an idle loop
- * without doing each. It copies the memory, and holds at most some 8 MB, 4 KB for each page with code that runs, and 16 bytes for
- * each input. The counts of two runs that follow one another add up to those of the whole run. */
+ * without doing each, if an iteration branches at most 256 times; others it does step by step. It copies the memory, and holds at most
+ * some 8 MB, 4 KB for each page with code that runs, and 16 bytes for each input. The counts of two runs that follow one another add
+ * up to those of the whole run. */
 uint8_t galluspa_profile(const galluspa_state *state, const uint32_t *words, size_t words_len, const galluspa_input *inputs,
                          size_t inputs_len, uint64_t to, uint64_t *visits, size_t visits_len, uint64_t *departures,
                          size_t departures_len);
