@@ -167,7 +167,9 @@ class BisectTest(ToolTest):
         ran = tool("bisect", long, "--", self.wrong_at(601), "{count}")
         self.assertTrue(ran.output.startswith(b"differs after instruction 600: the same at 600, not at 601"), ran)
         ran = tool("bisect", long, "--", self.wrong_at(602), "{count}")
-        self.assertTrue(ran.output.startswith(b"the same at 5000, and at each of the 17 counts that were looked at\n"), ran)
+        self.assertTrue(
+            ran.output.startswith(b"the same at 5000, and at each of the 17 counts that were looked at; what differs "), ran
+        )
 
     def test_of_many_inputs_some_are_looked_at(self) -> None:
         inputs = [(at, "mouse", at & 1) for at in range(1, 3002)]
@@ -175,11 +177,13 @@ class BisectTest(ToolTest):
         ran = tool("bisect", many, "--", self.wrong_at(0), "{count}")
         self.assert_refused(ran, "the emulator and the machine differ at count 0, in R5")
         ran = tool("bisect", many, "--", self.wrong_at(5001), "{count}")
-        self.assertIn(b"; 751 of 3,001 counts after inputs are among them\n", ran.output)
+        self.assertIn(b"; 751 of 3,001 counts after inputs are among them; what differs ", ran.output)
         self.assertEqual(ran.status, 0)
 
     def test_the_examples_have_the_same_states(self) -> None:
         recorded = self.file("keys.orsr", record((EXAMPLES / "keys.json").read_bytes()))
         command = [self.built / "-1/state", recorded, "{count}", self.folder / "memory.bin"]
         ran = tool("bisect", EXAMPLES / "keys.json", "--every", 10, "--", *command)
-        self.assertTrue(ran.output.startswith(b"the same at 100, and at each of the 11 counts that were looked at\n"), ran)
+        self.assertTrue(
+            ran.output.startswith(b"the same at 100, and at each of the 11 counts that were looked at; what differs "), ran
+        )

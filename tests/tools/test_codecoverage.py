@@ -141,3 +141,9 @@ class ExecutedTest(ToolTest):
         self.assertEqual(ran.status, 1)
         self.assertIn(b"not counted: bad.orsr: cannot read checkpoint 0: the bytes are not a recording\n", ran.output)
         self.assertIn(b"1 recordings, 7,475 instructions", ran.output)
+
+    def test_what_is_not_counted_has_its_name(self) -> None:
+        (self.folder / "suite/it.orsr").symlink_to("/dev/null")
+        self.addCleanup((self.folder / "suite/it.orsr").unlink)
+        ran = tool("executed", self.folder / "suite")
+        self.assertIn(b"\nnot counted: it.orsr: not a file\n", ran.output)

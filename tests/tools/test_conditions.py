@@ -101,6 +101,7 @@ MEANINGS: tuple[tuple[str, Callable[[Step], bool]], ...] = (
     ("R3=0", becomes(lambda it: it.registers[3], 0)),
     ("R0=0xFFFFFFFF", becomes(lambda it: it.registers[0], 0xFFFFFFFF)),
     ("R1=-64", becomes(lambda it: it.registers[1], 0xFFFFFFC0)),
+    ("SP=0", becomes(lambda it: it.registers[14], 0)),
     ("H=0", becomes(lambda it: it.h, 0)),
     ("flags=Z", becomes(lambda it: it.flags, 4)),
     ("flags=N-C-", becomes(lambda it: it.flags, 10)),
@@ -135,6 +136,7 @@ VALUES: tuple[tuple[str, Callable[[Step], bool]], ...] = (
     ("flags is N-C-", lambda it: it.before.flags == 10),
     ("writes R3", lambda it: "R3" in it.written),
     ("writes H", lambda it: "H" in it.written),
+    ("writes LNK", lambda it: "R15" in it.written),
     ("writes flags and R0 is 0x41", all_of(lambda it: "flags" in it.written, lambda it: it.before.registers[0] == 0x41)),
 )
 
@@ -188,7 +190,7 @@ class ConditionsTest(ToolTest):
             start = {"R": [source.getrandbits(19) for _ in range(16)], "H": 0, "PC": 0, "flags": 0, "rate": 3, "phase": 0}
             held |= self.assert_found(record({**session(words, [7, 60, 240]), "version": 2, "start": start}), 240)
         held |= self.assert_found(record(session([0x600B0000], [1, 9])), 9)
-        never = {"7", "PC=0x10-0x20", "R0=0xFFFFFFFF", "sent 66", "flags=N-C-", "LEDs=0x41 and writes R2"}
+        never = {"7", "PC=0x10-0x20", "R0=0xFFFFFFFF", "SP=0", "sent 66", "flags=N-C-", "LEDs=0x41 and writes R2"}
         self.assertLessEqual({written for written, _ in MEANINGS} - never, held)
 
     def test_one_of_several_holds(self) -> None:
@@ -249,7 +251,7 @@ class ConditionsTest(ToolTest):
             ("page 3 is 3", "PLACE"),
             ("0-7 is 3", "one word"),
             ("0xFFFFC4 is 3", "below 100000"),
-            ("writes LEDs", "R0 to R15, H or flags"),
+            ("writes LEDs", "R0 to R15, SP, LNK, H or flags"),
             ("R0 is", "expected a number"),
             ("R0 is not", "expected a number"),
             ("flags is 16", "no bit but those"),
@@ -308,6 +310,18 @@ class HitsTest(ToolTest):
             self.assert_same(
                 record(session(words, [200])), 200, "store 400", "load 8", "change 0-99", "R0=5", "store page 0", "PC=6"
             )
+
+    def test_keys_that_a_full_queue_drops(self) -> None:
+        """Sixteen keys wait before the first is read, and then one is read each three instructions."""
+        keys = [(0, "key", 0x41 + at) for at in range(18)] + [(4, "key", 0x61), (4, "key", 0x62)]
+        loop = (0x40000080, 0x5100FFDC, 0x82100000, 0xE7FFFFFD)
+        made = self.file("it.orsr", record(session(loop, [20], keys)))
+        lines = tool("find", made, "input", "input dropped", "--all").output.decode().splitlines()
+        self.assertEqual(
+            [it.split("input   ")[1] for it in lines if it.endswith(", dropped")],
+            [f"key {it}, dropped" for it in ("51H (Q)", "52H (R)", "62H (b)")],
+        )
+        self.assertEqual(sum("input   " in it for it in lines), 20)
 
     def test_the_instructions_are_those_of_a_trace(self) -> None:
         """Of random counts of random programs, whose stores are of words and of bytes."""

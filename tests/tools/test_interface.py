@@ -88,7 +88,7 @@ class InterfaceTest(ToolTest):
         machine = galluspa.Machine.claim(record(session([COUNTING[0], FLOAT], [9])))
         self.assertEqual([(step.word, step.after.stop) for step in machine.copy().steps(9)], [(COUNTING[0], 0), (FLOAT, 1)])
         self.assertEqual([machine.has_stopped, machine.advance(9), machine.has_stopped], [False, b"", True])
-        self.assertEqual([it.stop for it in machine.states(12, every=2)], [1, 1, 1])
+        self.assertEqual([[it.stop for it in machine.states(12, every)] for every in (1, 2)], [[1], [1]])
 
     def test_it_refuses_bad_input(self) -> None:
         machine = galluspa.Machine.claim(FACE, 1)

@@ -269,15 +269,17 @@ class NamesTest(ToolTest):
 
     def test_what_is_closed_is_not_used(self) -> None:
         with galluspa.Recording.open(self.path) as recording, recording.machine(3) as machine:
-            copy = machine.copy()
+            copy, begun = machine.copy(), [machine.hits("PC=0-99"), machine.states(9), machine.copy().steps(9)]
+            self.assertEqual([next(it) is None for it in begun], [False] * 3)
         uses: list[Callable[[], object]] = [lambda: machine.count, machine.run, machine.calls, lambda: machine.word("cell")]
-        uses += [lambda: machine.who("cell"), lambda: machine.why("cell")]
+        uses += [lambda: machine.who("cell"), lambda: machine.why("cell"), lambda: machine.end]
+        uses += [lambda: next(begun[0]), lambda: next(begun[1])]
         for call in uses:
             self.assertRaisesRegex(ValueError, "^this machine is closed$", call)
         uses = [lambda: recording.end, recording.machine, lambda: recording.inputs, lambda: recording.content]
         for call in uses:
             self.assertRaisesRegex(ValueError, "^this recording is closed$", call)
-        self.assertEqual((copy.count, copy.advance(4)), (3, b""))
+        self.assertEqual((copy.count, copy.advance(4), next(begun[2]) is None), (3, b"", False))
         machine.close()
 
     def test_refuses_what_is_none(self) -> None:

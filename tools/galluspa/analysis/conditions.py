@@ -32,7 +32,7 @@ from galluspa.analysis.rawconditions import (
     Condition,
     Raw,
 )
-from galluspa.engine.tracing import Step
+from galluspa.engine.tracing import Step, dropped
 from galluspa.formats import states
 from galluspa.formats.recording import FLAGS, KINDS, MOUSE, WORD
 from galluspa.formats.symbols import NONE, Symbols, address_of, shown
@@ -49,9 +49,11 @@ BITS = {
 }
 # What a condition may begin with, whatever the case of its letters, and what it is called.
 STARTS = {it.lower(): it for it in (*BITS, "PC", "store", "write", "writes", "load", "change", "sent", "input", "stop")}
+STARTS |= {"sp": "R14", "lnk": "R15"}
+DROPPED = "dropped"
 EVENTS = ("store", "write", "writes", "load", "change", "sent", "input", "stop")
 WANTED = (
-    "expected PC=N; store, load or change with a PLACE; NAME=VALUE for R0 to R15, H, flags, LEDs, switches, "
+    "expected PC=N; store, load or change with a PLACE; NAME=VALUE for R0 to R15, SP, LNK, H, flags, LEDs, switches, "
     "mouse or serial; writes NAME, NAME is VALUE or ADDRESS is VALUE; a comparison such as R0 == 13; sent, input or stop"
 )
 NOT_SEARCHED = "no search finds this alone: join it by and to what one does, such as PC=N, store PLACE or R0 == 13"
@@ -62,13 +64,14 @@ A CONDITION holds at an instruction; if there are several, one of them has to ho
   store PLACE               the instruction stores to the place, whatever the value
   change PLACE [mask M]     the instruction changes a bit there; with a mask, one that M has in its word
   load PLACE                the instruction loads from the place
-  NAME=VALUE                R0 to R15, H, flags (as NZ), LEDs, switches, mouse or serial becomes the value
-  writes NAME               the instruction writes R0 to R15, H or flags, whatever the value
-  NAME is VALUES            R0 to R15, H or flags has one of the VALUES before the instruction
+  NAME=VALUE                R0 to R15, SP, LNK, H, flags (as NZ), LEDs, switches, mouse or serial becomes the value
+  writes NAME               the instruction writes R0 to R15, SP, LNK, H or flags, whatever the value
+  NAME is VALUES            R0 to R15, SP, LNK, H or flags has one of the VALUES before the instruction
   ADDRESS is VALUES         so has the word of memory
   VALUE == VALUE            values before the instruction compare so: also != < <= > >=, with not before it, or in brackets
   sent [BYTE]               the instruction sends a byte, or this byte
   input [KIND]              the machine takes an input just before: timer, switches, mouse, key or serial
+  input dropped             it takes a key that it drops, since sixteen wait
   stop                      the instruction stops the machine
   A and B                   up to four of these hold at the same instruction; more comparisons may be joined to them
   A or B                    one of these holds, as if they were given one after the other
@@ -185,7 +188,7 @@ def _is(words: Words) -> tuple[tuple[Raw, ...], None]:
     if words.next.lower() in STARTS:
         name = STARTS[words.take().lower()]
         if name not in REGISTER_NUMBERS:
-            raise ValueError("expected R0 to R15, H, flags or the address of a word before is")
+            raise ValueError("expected R0 to R15, SP, LNK, H, flags or the address of a word before is")
         words.take()
         least, most = _values(name, words)
         return (Raw(IS, REGISTER_NUMBERS[name], least=least, most=most),), None
@@ -227,7 +230,7 @@ def _read(words: Words) -> tuple[tuple[Raw, ...], Callable[[Step], bool] | None]
     if name == "sent":
         return (_sends(words),), None
     if name == "input":
-        return _takes(words), None
+        return _takes(words)
     if name == "stop":
         return (Raw(STOPS),), None
     raise ValueError(WANTED)
@@ -242,7 +245,7 @@ def _writes(text: str) -> Raw:
     """That a register is written."""
     name = STARTS.get(text.lower(), "")
     if name not in REGISTER_NUMBERS:
-        raise ValueError("expected R0 to R15, H or flags")
+        raise ValueError("expected R0 to R15, SP, LNK, H or flags")
     return Raw(WRITES, REGISTER_NUMBERS[name])
 
 
@@ -284,16 +287,19 @@ def _change(words: Words) -> Raw:
     return Raw(CHANGE, place.first, place.end, mask)
 
 
-def _takes(words: Words) -> tuple[Raw, ...]:
-    """That an input is taken: any, or one of the kind that the next word says. The name of a kind may also begin the
-    next condition, as in switches=3."""
+def _takes(words: Words) -> tuple[tuple[Raw, ...], Callable[[Step], bool] | None]:
+    """That an input is taken: any, or one of the kind that the next word says, or a key that is dropped. The name of a kind may also
+    begin the next condition, as in switches=3."""
+    if words.next == DROPPED:
+        words.take()
+        return (Raw(TAKES, value=KIND_NUMBERS["key"]),), lambda step: any(dropped(step))
     if words.next in KIND_NUMBERS and not words.is_name:
-        return (Raw(TAKES, value=KIND_NUMBERS[words.take()]),)
+        return (Raw(TAKES, value=KIND_NUMBERS[words.take()]),), None
     is_next = not words or words.next.lower() in (*STARTS, *ANDS, *ORS) or _is_number(words.next)
     if not is_next:
         words.take()
-        raise ValueError(f"expected input alone, or with one of {', '.join(KIND_NUMBERS)}")
-    return tuple(Raw(TAKES, value=it) for it in KINDS)
+        raise ValueError(f"expected input alone, or with one of {', '.join((*KIND_NUMBERS, DROPPED))}")
+    return tuple(Raw(TAKES, value=it) for it in KINDS), None
 
 
 def _sends(words: Words) -> Raw:

@@ -126,9 +126,10 @@ class Writes(Protocol):
         it is as at the beginning."""
 
 
-def origins(writes: Writes, part: Written, value: int, count: int, most: int) -> list[Value]:
+def origins(writes: Writes, part: Written, value: int, count: int, most: int, has_addresses: bool = True) -> list[Value]:
     """Returns where a part's value before a count comes from, by at most `most` links, not counting those to instructions that
-    write a constant. A word that several stores wrote has several values."""
+    write a constant. A word that several stores wrote has several values. `has_addresses` says whether the addresses of loads and
+    stores are followed, too."""
     roots = [Value(part, value, count)]
     # What is to be followed: at what cost, then what was found last first, and of that the first first.
     heap: list[tuple[int, int, int, Value, list[Value]]] = [(0, 0, 0, roots[0], roots)]
@@ -150,7 +151,7 @@ def origins(writes: Writes, part: Written, value: int, count: int, most: int) ->
             it.end = Elsewhere()
         else:
             seen.add((it.part, step.before.count))
-            it.sources = list(_sources(step, it.part, writes))
+            it.sources = [source for source in _sources(step, it.part, writes) if has_addresses or source.role != ADDRESS]
             links += bool(it.sources)
             if not it.sources:
                 it.end = Constant()

@@ -113,11 +113,14 @@ class Writers:
         return None
 
 
-def origins_asked(run: Run, machine: Machine, text: str, symbols: Symbols, most: int = LINKS, jobs: int = 1) -> list[Value]:
-    """Returns where the value comes from that a machine of a run has in the part that a text names, by at most `most` links."""
+def origins_asked(
+    run: Run, machine: Machine, text: str, symbols: Symbols, most: int = LINKS, jobs: int = 1, has_addresses: bool = True
+) -> list[Value]:
+    """Returns where the value comes from that a machine of a run has in the part that a text names, by at most `most` links, with
+    the addresses of loads and stores or without."""
     moment = moment_of(machine)
     part = part_asked(text, moment, symbols)
-    return origins(Writers(run, jobs), part, value_now(part, moment), machine.count, most)
+    return origins(Writers(run, jobs), part, value_now(part, moment), machine.count, most, has_addresses)
 
 
 def _writing(part: Written) -> Condition:

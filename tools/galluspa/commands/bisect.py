@@ -36,6 +36,7 @@ WORDS_SHOWN = 64
 # A run of at most this many instructions is compared at each count, and a longer one after at most this many of its inputs.
 SHORT = 1000
 AFTER_INPUTS = 1000
+UNSEEN = "what differs between two of them, and no more at the second, is not seen: --every 1 looks at each"
 
 
 @dataclass(frozen=True)
@@ -145,11 +146,12 @@ def some_of(counts: Sequence[int]) -> Sequence[int]:
     return different[:: -(-len(different) // AFTER_INPUTS) or 1]
 
 
-def sameness(asked: int, to: int, tried: int, inputs: int) -> str:
+def sameness(asked: int, to: int, tried: int, inputs: int, is_each: bool) -> str:
     """Returns the line that says that the two never differ at the counts that were looked at; `tried` are those after inputs,
-    of which there are `inputs`."""
+    of which there are `inputs`, and `is_each` says whether they were all counts."""
     line = f"the same at {to}, and at each of the {asked} counts that were looked at"
-    return f"{line}; {tried:,} of {inputs:,} counts after inputs are among them" if tried < inputs else line
+    line += f"; {tried:,} of {inputs:,} counts after inputs are among them" if tried < inputs else ""
+    return line if is_each else f"{line}; {UNSEEN}"
 
 
 def report(search: Search, parted: Look, steps: int, symbols: Symbols = NONE) -> Iterator[str]:
@@ -212,7 +214,7 @@ def main(asked: Namespace) -> int:
     tried = some_of(inputs)
     parted = search.narrow(counts_of(asked.first, to, asked.every, tried))
     if not parted:
-        print(sameness(search.asked, to, len(tried), len(set(inputs))))
+        print(sameness(search.asked, to, len(tried), len(set(inputs)), search.asked == to - asked.first + 1))
         return 0
     print("\n".join(report(search, parted, asked.steps, symbols)))
     return 1

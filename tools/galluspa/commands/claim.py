@@ -9,13 +9,13 @@ from galluspa.formats import recording
 from galluspa.formats.recording import Checkpoint
 from galluspa.formats.sessions import CHECKPOINTS
 from galluspa.formats.states import REGISTERS, WORDS
-from galluspa.process.cli import Parser, Refused, number, read_file, write_bytes
+from galluspa.process.cli import Parser, Refused, number, read_file, write_output
 
 
 def parser() -> Parser:
     options = Parser(
         "Prints a recording with one claim changed: a part of a checkpoint claims another value.",
-        "galluspa claim examples/face.orsr --at 1 --set R5=9 > false.orsr",
+        "galluspa claim examples/face.orsr --at 1 --set R5=9 -o false.orsr",
     )
     options.add_argument("recording", metavar="RECORDING", type=Path)
     options.add_number("--at", "K", 0, CHECKPOINTS, "the number of the checkpoint", required=True)
@@ -25,6 +25,7 @@ def parser() -> Parser:
         required=True,
         help="R0 to R15, H, PC, flags, stop, timer, rate, phase, switches, LEDs, mouse or serial, and " "what it claims",
     )
+    options.add_output_option()
     options.add_program_option()
     return options
 
@@ -54,5 +55,5 @@ def main(asked: Namespace) -> int:
     read.checkpoints[asked.at] = claiming(read.checkpoints[asked.at], name, value)
     text = recording.write(read)
     program.decoded(f"--set {asked.set}", text)
-    write_bytes(text)
+    write_output(asked.output, text)
     return 0

@@ -74,7 +74,7 @@ def counted(library: Library, case: Case) -> Counted:
         run = Run.begun(library, case.content())
         return Counted(case, executions_of(run, 0, run.counts[-1]))
     except (Refused, TimeIsUp) as why:
-        return Counted(case, Executions(), printable(f"{case.name}: {why}".removeprefix(f"{case.name}: {case.name}: ")))
+        return Counted(case, Executions(), printable(f"{case.name}: {str(why).removeprefix(f'{case.name}: ')}"))
 
 
 def all_counted(library: Library, wanted: list[Case], jobs: int) -> tuple[Executions, list[str]]:
@@ -108,7 +108,7 @@ def main(asked: Namespace) -> int:
     seen, unread = all_counted(library, wanted, asked.jobs)
     tell_misfit(symbols, lambda: first_memory(library, wanted))
     found = CodeCoverage.of(seen, symbols)
-    if symbols and not any(symbols.text(4 * at) for at in seen.visits):
+    if symbols and seen.visits and not any(symbols.text(4 * at) for at in seen.visits):
         raise Refused(f"{symbols.origin} names nothing that is executed: are these the names of another program?")
     summary = f"{len(wanted) - len(unread):,} recordings, {seen.instructions:,} instructions at {len(seen.visits):,} words"
     sys.stdout.writelines(f"{line}\n" for line in [summary, *(f"not counted: {it}" for it in unread), *found.text()])

@@ -22,7 +22,7 @@ from galluspa.emulators.trialruns import MEMORY, RECORDING, SESSION, TrialRunner
 from galluspa.emulators.trials import Trial
 from galluspa.engine.library import Library
 from galluspa.formats import states
-from galluspa.process.cli import OK, WRONG, Failed, Parser, Refused, progress, write_file
+from galluspa.process.cli import OK, WRONG, Failed, Parser, Refused, progress, write_files
 from galluspa.process.escapes import printable
 from galluspa.process.temporary import temporary_folder
 from galluspa.process.timelimit import Limit
@@ -145,26 +145,14 @@ def _broken(broken: Broken, folder: Path) -> Refused:
     kind = Failed if broken.is_failure else Refused
     if not broken.trial:
         return kind(broken.reason)
-    path = made(folder) / UNANSWERED
-    write_file(path, broken.trial.session().text().encode())
-    return kind(f"{broken.origin}, kept as {path}: {broken.reason}")
-
-
-def made(folder: Path) -> Path:
-    """Returns a folder, which is made if it is not there."""
-    try:
-        folder.mkdir(parents=True, exist_ok=True)
-    except OSError as error:
-        raise Failed(f"{folder}: {error.strerror}") from error
-    return folder
+    write_files(folder, {UNANSWERED: broken.trial.session().text().encode()})
+    return kind(f"{broken.origin}, kept as {folder / UNANSWERED}: {broken.reason}")
 
 
 def leave(finding: Finding, folder: Path) -> Path:
     """Writes what is found into a folder of its own."""
     own = folder / "-".join(finding.key)
-    made(own)
-    for name, content in finding.files().items():
-        write_file(own / name, content)
+    write_files(own, finding.files())
     return own
 
 

@@ -10,9 +10,12 @@ from textwrap import dedent
 from galluspa.engine.program import REFUSED, Program
 from galluspa.output import live
 from galluspa.process import paths
-from galluspa.process.cli import OK, Output, Parser, Refused, read_file, write_file
+from galluspa.process.cli import OK, Output, Parser, Refused, complain, read_file, write_file
 from galluspa.process.escapes import printable
 from galluspa.process.timelimit import Limit
+
+
+NO_BROWSER = "no browser found: open this file yourself"
 
 
 def parser() -> Parser:
@@ -24,7 +27,7 @@ def parser() -> Parser:
             and opens that one: the page shows the initial state, and Play plays the file."""
         ),
         "galluspa live examples/snake.json",
-        {OK: "a browser has the page"},
+        {OK: "a browser has the page, or -o wrote it"},
     )
     options.add_argument("file", metavar="FILE", type=Path, nargs="?", help="a recording or a session")
     options.add_argument("-o", metavar="PAGE", dest="output", type=Output, help="write the page of FILE here, and open it")
@@ -63,5 +66,7 @@ def main(asked: Namespace) -> int:
         raise Refused(f"{page}: no live page")
     print(printable(str(page)), flush=True)
     if not webbrowser.open(page.as_uri()):
-        raise Refused("no browser found: open this file yourself")
+        if not asked.output:
+            raise Refused(NO_BROWSER)
+        complain(NO_BROWSER)
     return OK

@@ -11,6 +11,7 @@ from textwrap import dedent
 from galluspa.analysis.calls import add_stack_limit_option
 from galluspa.analysis.profiles import Profile, profile_of
 from galluspa.engine.library import Library
+from galluspa.engine.opening import count_asked
 from galluspa.engine.tracing import Run
 from galluspa.formats.builds import tell_misfit
 from galluspa.formats.sessions import COUNTS
@@ -64,17 +65,15 @@ def profiled(library: Library, path: Path, asked: Namespace, symbols: Symbols) -
         raise type(refusal)(f"{path}: {str(refusal).removeprefix(f'{path}: ')}") from refusal
     tell_misfit(symbols, run.read.first_memory)
     last = run.counts[-1]
-    to = last if asked.to is None else asked.to
-    if asked.first > last:
-        raise Refused(f"{path}: --from {asked.first} is after the last checkpoint, which is at {last}")
-    if to < asked.first:
+    to = count_asked(f"{path}: --to", asked.to, last)
+    if to < count_asked(f"{path}: --from", asked.first, last):
         raise Refused(f"--to {to} is before --from {asked.first}")
 
     def heard(count: int) -> None:
         progress(f"at {count:,} of {to:,}")
 
     profile = profile_of(run, asked.first, to, symbols, asked.stack_limit, heard)
-    if symbols and not any(symbols.text(4 * at) for at in profile.seen.visits):
+    if symbols and profile.seen.visits and not any(symbols.text(4 * at) for at in profile.seen.visits):
         raise Refused(f"{symbols.origin} names nothing that is executed: are these the names of another program?")
     progress("")
     return profile

@@ -1,6 +1,5 @@
 """Makes a session from a memory image, registers and inputs; or extracts the session of a recording."""
 
-import sys
 from argparse import Namespace
 from collections.abc import Sequence
 from pathlib import Path
@@ -16,7 +15,7 @@ from galluspa.formats.recording import MEMORY_BYTES
 from galluspa.formats.sessions import CHECKPOINTS, COUNTS, LONGEST_RUN, Session
 from galluspa.formats.symbolfiles import symbols_for
 from galluspa.formats.symbols import Symbols, address_of
-from galluspa.process.cli import Parser, Refused, complain, number, read_file
+from galluspa.process.cli import Parser, Refused, complain, number, read_file, write_output
 
 
 def parser() -> Parser:
@@ -62,6 +61,7 @@ def parser() -> Parser:
         "--most", "N", 1, COUNTS, f"look for the stop or the loop up to count N (default {LONGEST_RUN:,})", default=LONGEST_RUN
     )
     options.add_argument("--of", metavar="RECORDING", type=Path, help="take initial state, inputs and counts from a recording")
+    options.add_output_option()
     options.add_symbols_option()
     options.add_machine_options()
     options.add_limit_option("look for the end of the run for this many seconds")
@@ -131,7 +131,7 @@ def main(asked: Namespace) -> int:
             raise Refused("--of takes everything from the recording: leave out the other options")
         text = read_file(asked.of)
         read = Program.find(asked.program).decoded(str(asked.of), text)
-        sys.stdout.write(sessions.of_recording(str(asked.of), read).text())
+        write_output(asked.output, sessions.of_recording(str(asked.of), read).text())
         return 0
     if not asked.memory:
         raise Refused("give --memory IMAGE or --of RECORDING (see galluspa session --help)")
@@ -148,5 +148,5 @@ def main(asked: Namespace) -> int:
     check_counts(asked.checkpoints, asked.every, asked.until, asked.end)
     end = end_of(asked, session) if asked.end else None
     session.checkpoints = counts_of(asked.checkpoints, asked.every, asked.until, end)
-    sys.stdout.write(session.text())
+    write_output(asked.output, session.text())
     return 0

@@ -28,9 +28,7 @@ def parser(description: str, example: str, file: str, statuses: dict[int, str]) 
     """Returns the command line for a command of the program that converts one file."""
     options = Parser(description, example, {**statuses, WORDS_REFUSED: "the program refuses its arguments"})
     options.add_argument("file", metavar=file, type=Path, nargs="?", help="the file (default: standard input)")
-    options.add_argument(
-        "-o", "--output", metavar="FILE", type=Output, help="write the result into a file instead of standard output"
-    )
+    options.add_output_option()
     options.add_program_option()
     return options
 

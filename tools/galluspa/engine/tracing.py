@@ -15,6 +15,7 @@ from galluspa.engine.machine import Inputs, Machine, Sent
 from galluspa.engine.program import MOST_WORKERS, REFUSED, WORKERS, Answer, Program
 from galluspa.engine.recorded import RawStep, raw_steps
 from galluspa.formats import recording, states
+from galluspa.formats.devicewords import MOST_KEYS
 from galluspa.formats.instructions import address, is_store, mnemonic, writes
 from galluspa.formats.recording import Checkpoint, Event, Recording
 from galluspa.process.cli import Parser, Refused, progress, read_file, whole_number
@@ -218,9 +219,18 @@ def with_progress(steps: Iterable[Step], to: int) -> Iterator[Step]:
 
 def lines(step: Step) -> Iterator[str]:
     """Yields the lines that show an instruction: one for each input before it, and its own."""
-    for event in step.inputs:
-        yield f"{event.count:>10}  input   {states.event(event)}"
+    for event, is_dropped in zip(step.inputs, dropped(step)):
+        yield f"{event.count:>10}  input   {states.event(event)}{', dropped' if is_dropped else ''}"
     yield line(step, changes(step))
+
+
+def dropped(step: Step) -> Iterator[bool]:
+    """Yields for each input before an instruction whether it is a key that the full queue drops."""
+    room = MOST_KEYS - len(step.before.keys)
+    for event in step.inputs:
+        is_key = states.kind(event) == "key"
+        yield is_key and room <= 0
+        room -= is_key
 
 
 def line(step: Step, changed: Iterable[str]) -> str:

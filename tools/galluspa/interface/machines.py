@@ -3,7 +3,7 @@
 import io
 from collections.abc import Iterator, Mapping, Sequence
 from dataclasses import dataclass
-from typing import TYPE_CHECKING, Self
+from typing import TYPE_CHECKING, Self, TypeVar
 
 from galluspa.analysis.addresses import address_in_memory, moment_of
 from galluspa.analysis.conditions import conditions_of
@@ -30,6 +30,7 @@ from galluspa.process.cli import Refused, with_libraries
 if TYPE_CHECKING:
     from PIL.Image import Image
 
+T = TypeVar("T")
 # The library takes the number of a checkpoint as a word of 32 bits.
 MOST_CHECKPOINT = 0xFFFFFFFF
 
@@ -130,11 +131,21 @@ class Machine:
     def __exit__(self, *_: object) -> None:
         self.close()
 
+    def _check_open(self) -> None:
+        """Raises ValueError if the machine is closed."""
+        if self._is_closed:
+            raise ValueError("this machine is closed")
+
+    def _while_open(self, found: Iterator[T]) -> Iterator[T]:
+        """Yields the same until the machine is closed; then raises ValueError."""
+        for it in found:
+            yield it
+            self._check_open()
+
     @property
     def _machine(self) -> RawMachine:
         """Returns the library's machine. Raises ValueError if this one is closed."""
-        if self._is_closed:
-            raise ValueError("this machine is closed")
+        self._check_open()
         return self._there
 
     @property
@@ -145,6 +156,7 @@ class Machine:
     @property
     def end(self) -> int:
         """Returns the count of the last checkpoint. From there on the machine runs on without inputs."""
+        self._check_open()
         return self._run.counts[-1]
 
     @property
@@ -268,7 +280,7 @@ class Machine:
     def hits(self, condition: str, to: int | None = None) -> Iterator[Hit]:
         """Returns the instructions before a count, by default that of the last checkpoint, at which a condition holds, in their
         order. The machine stays as it is."""
-        return self._search(condition, self.count, self._count(to)).all(COUNTS)
+        return self._while_open(self._search(condition, self.count, self._count(to)).all(COUNTS))
 
     def _search(self, condition: str, first: int, to: int) -> Search:
         run = RunFrom(self._run.library, self._machine.copy(), self._run.inputs)
@@ -277,17 +289,18 @@ class Machine:
     def steps(self, to: int) -> Iterator[Step]:
         """Yields the instructions up to a count, each with the states before and after it; one that stops is the last.
         The machine runs on with them."""
-        return self._run.steps(self._machine, number("count", to, self.count, COUNTS))
+        return self._while_open(self._run.steps(self._machine, number("count", to, self.count, COUNTS)))
 
     def states(self, to: int, every: int = 1) -> Iterator[State]:
-        """Yields the states from the machine's count up to another: after each instruction, or after each `every` of them."""
-        return self._states(number("count", to, self.count, COUNTS), number("every", every, 1, COUNTS))
+        """Yields the machine's state, those after each instruction, or after each `every` of them, and that of a count. If
+        the machine stops, that state is the last. The machine runs on with them."""
+        return self._while_open(self._states(number("count", to, self.count, COUNTS), number("every", every, 1, COUNTS)))
 
     def _states(self, to: int, every: int) -> Iterator[State]:
         yield self.state
         if every == 1:
             yield from (step.after for step in self.steps(to))
         else:
-            while self.count < to:
+            while self.count < to and not self.has_stopped:
                 self.advance(min(self.count + every, to))
                 yield self.state

@@ -10,7 +10,7 @@ import signal
 import stat
 import sys
 import threading
-from collections.abc import Callable, Iterable, Iterator, Sequence
+from collections.abc import Callable, Iterable, Iterator, Mapping, Sequence
 from pathlib import Path
 from types import FrameType, ModuleType
 from typing import Any, BinaryIO, NoReturn, TextIO
@@ -98,6 +98,12 @@ class Parser(argparse.ArgumentParser):
         """Adds the options that name the program and the library."""
         self.add_program_option()
         self.add_library_option()
+
+    def add_output_option(self) -> None:
+        """Adds the option that names the file to write in place of standard output."""
+        self.add_argument(
+            "-o", "--output", metavar="FILE", type=Output, help="write the result into a file instead of standard output"
+        )
 
     def add_symbols_option(self) -> None:
         """Adds the option that names the file that gives names to addresses."""
@@ -240,6 +246,25 @@ def write_output(output: Output | None, content: bytes | str) -> None:
         write_bytes(content)
 
 
+def write_files(folder: Path, contents: Mapping[str, bytes]) -> None:
+    """Writes files of a folder, which is made if it is not there. If one of them cannot be written, all stay as they were."""
+    is_there, written = folder.exists(), list[tuple[Path, Path]]()
+    make_folder(folder)
+    try:
+        for number, (name, content) in enumerate(contents.items()):
+            target = Path(os.path.realpath(folder / name))
+            written.append((_written(folder / name, target, content, number), target))
+        for new, target in written:
+            os.replace(new, target)
+    except BaseException as error:
+        for new, _ in written:
+            new.unlink(missing_ok=True)
+        if not is_there:
+            with contextlib.suppress(OSError):
+                folder.rmdir()
+        raise _unwritable(folder, error) if isinstance(error, OSError) else error
+
+
 def make_folder(folder: Path) -> None:
     """Makes a folder in which something is written, with those above it, unless it is there."""
     try:
@@ -268,18 +293,23 @@ def _write_all(file: io.FileIO, content: bytes) -> None:
 
 
 def _replace(path: str | Path, target: Path, content: bytes) -> None:
-    # Threads write side by side.
-    new = target.with_name(f".galluspa-{os.getpid()}-{threading.get_ident()}")
+    """Writes a file beside the one whose place it then takes."""
+    os.replace(_written(path, target, content), target)
+
+
+def _written(path: str | Path, target: Path, content: bytes, number: int = 0) -> Path:
+    """Returns a new file that can take the place of another. Threads write side by side; several files of one have numbers."""
+    new = target.with_name(f".galluspa-{os.getpid()}-{threading.get_ident()}-{number}")
     with open(new, "xb", buffering=0) as file:
         try:
             with _failing(path):
                 _write_all(file, content)
             if target.exists():
                 os.chmod(new, target.stat().st_mode & 0o777)
-            os.replace(new, target)
         except BaseException:
             new.unlink(missing_ok=True)
             raise
+    return new
 
 
 @contextlib.contextmanager
