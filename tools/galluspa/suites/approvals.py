@@ -16,7 +16,7 @@ from galluspa.analysis.drawing import Dots, dots_differing
 from galluspa.formats.screens import HEAD, HEADER, HEIGHT, WIDTH, picture
 from galluspa.formats import states
 from galluspa.formats.scripts import LOOK_NAME
-from galluspa.process.cli import Refused, make_folder, read_file, with_libraries, write_file
+from galluspa.process.cli import Refused, make_folder, pillow, read_file, write_file
 from galluspa.process.escapes import printable
 from galluspa.suites.reruns import Rerun, Seen
 
@@ -201,7 +201,7 @@ def _cut(text: str) -> str:
 
 def pbm_of(png: bytes) -> bytes:
     """Returns the dots of a golden picture, as the program draws them. Raises Refused for anything but a picture of a screen."""
-    image = with_libraries("PIL.Image")
+    image = pillow()
     try:
         with image.open(io.BytesIO(png), formats=["PNG"]) as picture:
             if picture.size != (WIDTH, HEIGHT):
