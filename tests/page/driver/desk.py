@@ -364,14 +364,6 @@ class Desk:
         self.page.insert(text)
         self.page.press("Enter")
 
-    def number_of(self, line: int) -> tuple[float, float]:
-        """Returns where the number of a line is, which is counted from 1, beside the place of its breakpoint."""
-        x, y = self.page.answer(
-            f"(({{ right, top, height }}) => [right - 5, top + height / 2])"
-            f"(el('source').querySelector('.numbers [data-line=\"{line - 1}\"]').parentElement.getBoundingClientRect())"
-        )
-        return x, y
-
     def replace_source(self, text: str) -> None:
         """Pastes a text in place of the whole source."""
         self.page.answer("sourceField.field.focus()")
