@@ -157,14 +157,10 @@ def differences(approved: Approved, ran: Rerun) -> Differences:
 
 
 def _differing_dots(look: Seen, approved: Approved) -> Dots | None:
-    """Returns in which dots that count the screen of a look differs."""
-    return dots_differing(pbm_of(approved.screens[look.name]), pbm_of(look.screen), masks_of(look, approved))
-
-
-def masks_of(look: Seen, approved: Approved) -> Sequence[bytes]:
-    """Returns the bitmaps of the dots that do not count at a look: in this run, and in the one that was approved."""
+    """Returns in which dots the screen of a look differs, but for those that do not count in this run or in the approved one."""
     before = approved.masks.get(look.name)
-    return [*([look.mask] if look.mask else []), *([pbm_of(before)[HEAD:]] if before else [])]
+    masks = [*([look.mask] if look.mask else []), *([pbm_of(before)[HEAD:]] if before else [])]
+    return dots_differing(pbm_of(approved.screens[look.name]), pbm_of(look.screen), masks)
 
 
 def _differing_byte(approved: str, sent: bytes) -> int | None:
