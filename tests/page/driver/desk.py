@@ -236,7 +236,8 @@ class Desk:
 
     def draw(self) -> None:
         """Starts the drawing program, and waits until it runs."""
-        is_there = self.another_machine("el('draw').click()")
+        is_there = self.another_machine("0")
+        self.press("draw")
         self.page.wait(f"{is_there} && {IS_ON} && document.activeElement === el('screen')")
 
     def go_on(self) -> None:
