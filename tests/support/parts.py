@@ -61,7 +61,6 @@ SUITES: Mapping[str, Suite] = {
             "esbuild": "esbuild",
             "zopfli": "zopfli",
             "nodejs": "node",
-            "python3-pil": PACKAGES / "PIL",
         },
         page_words,
     ),
