@@ -11,7 +11,6 @@ from pathlib import Path
 from galluspa.process.cli import Refused
 
 HERE = Path(__file__).resolve().parent
-TOKENS = HERE.parent / "tools/galluspa/output/tokens.css"
 EXAMPLES = ("draw", "face", "snake")
 WASM_MAGIC = b"\0asm"
 # A document of a lesson: its title, the source that it names first, its exercises and their answers, each a numbered list.
@@ -65,11 +64,6 @@ def sources() -> bytes:
     examples = {path.stem: path.read_text() for path in sorted((HERE.parent / "examples").glob("*.asm"))}
     lessons = [lesson(path) for path in sorted((HERE.parent / "docs/lessons").glob("[0-9]*.md"))]
     return json.dumps({"examples": examples, "lessons": lessons}, ensure_ascii=False).encode()
-
-
-def style() -> str:
-    """The style sheet of the page: colours, type and sizes of all pages, and its own rules."""
-    return TOKENS.read_text() + (HERE / "page.css").read_text()
 
 
 def filled(template: str, parts: Mapping[str, str]) -> str:

@@ -443,25 +443,6 @@ interface Origin {
   from: Origin[];
 }
 
-/** A time that an instruction was executed: its count, what it read and wrote, each by its name, and the number that it wrote. */
-interface Execution {
-  count: number;
-  reads: [string, string][];
-  writes: [string, string][];
-  value: number | null;
-}
-
-/** How often words were executed before a count; the first and the last of these times, which have none in common; how many there are in each of some equal parts of the
- * run; and for how many counts all of that is known. */
-interface Executed {
-  to: number;
-  number: number;
-  first: Execution[];
-  last: Execution[];
-  parts: number[];
-  done: number;
-}
-
 interface Extent {
   counts: number[];
   bytes: number;
@@ -542,7 +523,6 @@ interface PastNews extends Failure {
   searched?: { generation: number; request: number; done: number; of: number };
   lastWriter?: Written & { generation?: number };
   why?: { generation?: number; request?: number; values: Origin[] };
-  executed?: Executed & { generation: number; request?: number };
   counted?: { generation: number; to: number; done: number; of: number };
   followed?: { generation: number; request?: number; done: number; of: number };
 }
@@ -660,8 +640,6 @@ interface Requests {
   hits: [{ generation?: number; from: number; to: number; conditions: Condition[] }, Hits | null];
   lastWriter: [About & { generation?: number; request?: number; before: number }, Written];
   why: [About & { generation?: number; request?: number; before: number; links: number }, { values?: Origin[]; stopped?: boolean }];
-  executions: [{ generation?: number; request?: number; from: number; end: number; to: number }, Executed | null];
-  stopExecutions: [{}, void];
   recheck: [{ generation?: number; at: number }, { at?: number; part?: string | null; stopped?: boolean }];
   stopSearch: [{}, boolean];
   keyframes: [{}, Extent];
@@ -790,7 +768,6 @@ interface Events {
   searched: NonNullable<PastNews["searched"]>;
   wrote: NonNullable<PastNews["lastWriter"]>;
   why: NonNullable<PastNews["why"]>;
-  executed: NonNullable<PastNews["executed"]>;
   counted: NonNullable<PastNews["counted"]>;
   followed: NonNullable<PastNews["followed"]>;
 }

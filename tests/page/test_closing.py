@@ -143,7 +143,6 @@ def test_end_at_once(tmp_path: Path) -> None:
             expect("what is asked once all is kept", who.page.dialogs[dialogs:], [])
             forget_all(who)
         expect("whether the browser asked", asked > 0, True)
-        who.expect_sound()
 
 
 def test_end_before_written(tmp_path: Path) -> None:
@@ -179,7 +178,6 @@ def test_end_before_written(tmp_path: Path) -> None:
                 who.page.answer("Object.keys(localStorage).filter((key) => key.startsWith('galluspa-log'))"),
                 [],
             )
-        who.expect_sound()
 
 
 def test_end_process(tmp_path: Path) -> None:
@@ -215,7 +213,6 @@ def test_take_over_and_reload(tmp_path: Path) -> None:
         who.wait_until_kept()
         who.reload()
         keep_branch(who)
-        who.expect_sound()
 
 
 def test_take_over_and_end(tmp_path: Path) -> None:
@@ -231,4 +228,3 @@ def test_take_over_and_end(tmp_path: Path) -> None:
         who.browser.kill()
     with begun(tmp_path) as who:
         keep_branch(who)
-        who.expect_sound()

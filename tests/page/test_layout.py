@@ -88,8 +88,7 @@ def test_hide_empty_lanes(desk: Desk) -> None:
     page, names = desk.page, "[...el('names').children].map((it) => it.textContent).filter(Boolean)"
     page.resize(1366, 625)
     page.answer("el('speed').value = 'clock'; el('each').value = 0")
-    desk.press("draw")
-    page.wait("galluspa.frame()?.on && document.activeElement === el('screen')")
+    desk.draw()
     # What was open before is shown until the lanes are drawn anew.
     page.wait(f"({names}).join() === 'keyframes'")
     high = page.answer("el('track').offsetHeight")

@@ -122,7 +122,6 @@ def test_fill_storage(tmp_path: Path) -> None:
         who.ready()
         who.press("#g-write")
         who.page.wait(f"{TEXT}.includes('MOV R1, 11')")
-        who.expect_sound()
 
 
 def test_note_when_full(tmp_path: Path) -> None:
@@ -143,7 +142,6 @@ def test_note_when_full(tmp_path: Path) -> None:
         who.ready()
         continue_with(who, "draw")
         who.page.wait("notes().length === 1")
-        who.expect_sound()
 
 
 def test_leave_before_written(tmp_path: Path) -> None:
@@ -157,7 +155,6 @@ def test_leave_before_written(tmp_path: Path) -> None:
             continue_with(who, "Source program.asm")
             who.page.wait(f"{TEXT}.includes('{text}')")
             who.page.press("End", number=35)
-        who.expect_sound()
 
 
 def test_go_back_and_forth(tmp_path: Path) -> None:
@@ -177,7 +174,6 @@ def test_go_back_and_forth(tmp_path: Path) -> None:
             f"{ALL.strip()}.then((all) => all.flatMap(({{ parts }}) => parts?.[0].text.split('\\n').pop() ?? []))"
         )
         expect("the last lines of what is kept", sorted(found), texts)
-        who.expect_sound()
 
 
 def test_deny_storage(tmp_path: Path) -> None:
@@ -221,7 +217,6 @@ def test_list_sources(tmp_path: Path) -> None:
         who.page.wait(f"{NUMBER} === 'none'")
         open_kept(who, "Undo")
         who.page.wait(f"{NUMBER} === '1'")
-        who.expect_sound()
 
 
 def test_keep_beside_many(tmp_path: Path) -> None:
@@ -264,7 +259,6 @@ def test_keep_beside_many(tmp_path: Path) -> None:
         open_kept(who, "Resume", 20)
         who.page.wait(f"{WORD} === 'PAUSED' && {SENT} === 'a'")
         expect("the keys of another item", who.keys(), "a")
-        who.expect_sound()
 
 
 def test_continue_last(tmp_path: Path) -> None:
@@ -322,7 +316,6 @@ def test_continue_last(tmp_path: Path) -> None:
         who.page.wait(f"{TEXT}.includes('Mine')")
         write_line(who, "x")
         expect("where one writes on", "Minxe" in who.page.answer(TEXT), True)
-        who.expect_sound()
 
 
 def test_continue_by_double_clicks(tmp_path: Path) -> None:
@@ -350,7 +343,6 @@ def test_continue_by_double_clicks(tmp_path: Path) -> None:
                 who.run_or_pause()
                 who.page.wait("galluspa.work().head")
         expect("what is kept of it", who.page.answer(f"{PARTED.strip()}.then(({{ heads }}) => heads.length)"), 2)
-        who.expect_sound()
 
 
 def double_click(who: Person, found: str, pause: float = 0) -> None:
@@ -402,7 +394,6 @@ def test_leave_while_resuming(tmp_path: Path) -> None:
         expect("the count that is looked at", who.count(), at)
         expect("what else is", who.page.answer("[breakpoints().length, watched().length, ...notes()]"), [1, 1, "here"])
         who.page.wait(f"({LOOKED_AT}).join() === '1,1,1,{at}'")
-        who.expect_sound()
 
 
 def show_part(who: Person, file: str) -> None:
@@ -444,7 +435,6 @@ def test_keep_several(tmp_path: Path) -> None:
         at = who.count()
         who.press("#g-step")
         who.page.wait(f"{COUNT} === {at + 1}")
-        who.expect_sound()
 
 
 def run_several(who: Person) -> None:
@@ -484,7 +474,6 @@ def test_fill_with_several(tmp_path: Path) -> None:
         continue_with(who, "Source draws.asm and 1 more file")
         who.page.wait(f"{TEXT}.includes('More')")
         expect_parts(who, dict(reversed(texts.items())), breaks)
-        who.expect_sound()
 
 
 def test_end_in_a_project(tmp_path: Path) -> None:
@@ -522,4 +511,3 @@ def test_end_in_a_project(tmp_path: Path) -> None:
         who.page.wait(f"{BROKEN} === '3'")
         expect("the notes", who.page.answer("notes()"), ["here"])
         expect("what else is kept", who.page.answer(NUMBER), "none")
-        who.expect_sound()

@@ -6,7 +6,7 @@ import json
 import galluspa.formats.recording
 from tests.page.driver.desk import Desk, expect, program, program_dots
 from tests.page.driver.given import FACE
-from tests.page.driver.shows import EXACT, HEADLINE, JUDGED, LINE, NOTICE, OWN_JUDGED, SENT, shown
+from tests.page.driver.shows import EXACT, HEADLINE, JUDGED, LINE, NOTICE, OWN_JUDGED, shown
 from tests.tools.samples import EXAMPLES, JUMP, claim, encoded, page_of, record
 
 
@@ -32,11 +32,8 @@ def test_save_in_past(desk: Desk) -> None:
     """In the past all of a recording is saved, which is said; and what is up to the cursor, with a checkpoint there."""
     page = desk.page
     desk.set_speed("clock")
-    desk.press("draw")
-    page.wait("galluspa.frame()?.on && document.activeElement === el('screen')")
-    for key in "abc":
-        page.press(key)
-        page.wait(f"{SENT}.endsWith({key!r})")
+    desk.draw()
+    desk.type("abc")
     page.wait("galluspa.count() > 30000000")
     desk.press("run")
     page.wait("!galluspa.frame().on")
@@ -75,14 +72,10 @@ def test_know_snake(desk: Desk) -> None:
     game = record((EXAMPLES / "snake.json").read_bytes())
     for name in ("game.orsr", "game-live.orsr"):
         desk.start(name, game)
-        expect("whether it is the game", page.answer("[el('pad').checkVisibility(), el('pad').checkVisibility()]"), [True, True])
+        expect("whether it is the game", page.answer("el('pad').checkVisibility()"), True)
         desk.save("game", f"the game {name}")
     desk.start("snake.json", (EXAMPLES / "keys.json").read_bytes())
-    expect(
-        "whether another program of its name is",
-        page.answer("[el('pad').checkVisibility(), el('pad').checkVisibility()]"),
-        [False, False],
-    )
+    expect("whether another program of its name is", page.answer("el('pad').checkVisibility()"), False)
     desk.press("snake")
     page.wait("galluspa.frame()?.on && galluspa.count() > 3000000")
     expect("what is beside a game", page.answer("[el('game').checkVisibility(), el('state').checkVisibility()]"), [True, False])
@@ -108,11 +101,7 @@ def test_read_numbers(desk: Desk) -> None:
         ("count 4,000,000", 4000000),
         ("0.5 s", 12500000),
     ):
-        page.answer("el('cursor').focus()")
-        page.press("g")
-        page.answer("el('goto').value = ''")
-        page.insert(text)
-        page.press("Enter")
+        desk.go_to(text)
         page.wait(f"galluspa.cursor() === {count} && {EXACT}")
     pc = page.answer("galluspa.shownPart('PC')")
     expect("PC in both notations", page.answer("stateCell('PC').textContent"), f"{4 * pc:04X} · {pc}")

@@ -76,11 +76,8 @@ def test_go_on_at_key(desk: Desk) -> None:
     """What is taken over goes on at the first key, and the program gets that: the drawing program, and Snake by an arrow."""
     page = desk.page
     desk.set_speed("clock")
-    desk.press("draw")
-    page.wait("galluspa.frame()?.on && document.activeElement === el('screen')")
-    for key in "ab":
-        page.press(key)
-        page.wait(f"{SENT}.endsWith({key!r})")
+    desk.draw()
+    desk.type("ab")
     desk.press("run")
     page.wait(f"{WORD} === 'PAUSED'")
     page.press("Tab")

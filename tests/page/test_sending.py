@@ -100,8 +100,7 @@ def given(read: galluspa.formats.recording.Recording) -> bytes:
 def test_send_bytes(desk: Desk) -> None:
     """A file is sent byte for byte: all 256 of them, without a return."""
     page, content = desk.page, bytes(range(256))
-    desk.press("draw")
-    page.wait("galluspa.frame()?.on && document.activeElement === el('screen')")
+    desk.draw()
     desk.press("tab-devices")
     send_file(desk, content)
     page.wait(f"{SENT}.endsWith('\\\\fe\\\\ff') && !el('serial-progress').checkVisibility()")
@@ -205,8 +204,7 @@ def test_cancel(desk: Desk) -> None:
     """A text of three million characters is kept in a moment, says how far it is, leaves inputs for keys, and is cancelled; then nothing of it comes, also after a
     reload."""
     page = desk.page
-    desk.press("draw")
-    page.wait("galluspa.frame()?.on && document.activeElement === el('screen')")
+    desk.draw()
     desk.press("tab-devices")
     page.answer(f"el('serial').value = 'x'.repeat({MANY}); el('serial').focus()")
     page.press("Enter")

@@ -2,7 +2,7 @@
 
 import re
 
-from tests.page.driver.shows import ASSEMBLED, PARTS, SOURCE_LINE, SOURCE_SAID, STOP, WORD
+from tests.page.driver.shows import ASSEMBLED, NOTICE, PARTS, SOURCE_LINE, SOURCE_SAID, STOP, WORD
 from tests.page.driver.desk import CTRL, SHIFT, Desk, expect, fail
 from tests.page.driver.given import DRAWS, RECURSIVE
 from tests.tools.samples import EXAMPLES
@@ -160,11 +160,13 @@ def test_run_again(desk: Desk) -> None:
 
 
 def compare_runs(desk: Desk) -> tuple[int, list[str], int, int]:
-    """Runs the changed program with the inputs of the run before. Returns the line that differs first, what it did in both, and the counts after it."""
+    """Runs the changed program with the inputs of the run before; that the button is pressed once more meanwhile changes nothing. Returns the line that differs
+    first, what it did in both, and the counts after it."""
     page = desk.page
     page.answer("el('source-parts').textContent = ''")
-    desk.press("source-again")
+    page.answer("el('source-again').click(); el('source-again').click()")
     page.wait(f"{PARTS}.startsWith('First difference at line ')")
+    expect("what the page says besides", page.answer(NOTICE), "")
     page.wait("galluspa.frame().on && !galluspa.frame().isReplay")
     desk.pause()
     said = re.match(

@@ -163,8 +163,7 @@ def lists(desk: Desk) -> list[list[str]]:
 def test_show_lanes_of_recording(desk: Desk) -> None:
     """The lanes of the screen and of the sent bytes are the same while one draws, after the recording is continued, and in a replay at either speed."""
     page = desk.page
-    desk.press("draw")
-    page.wait("galluspa.frame()?.on && document.activeElement === el('screen')")
+    desk.draw()
     left, top, width = desk.screen()
     for step in range(30):
         page.point("mousePressed" if not step else "mouseMoved", left + width * (0.1 + step / 50), top + 60 + 4 * step, 1)

@@ -33,14 +33,9 @@ def another(who: Person, name: str) -> Iterator[Person]:
     tab = Person(who.browser, folder)
     tab.page.show()
     yield tab
+    tab.expect_sound()
     if tab.page in who.browser.pipe.pages:
         tab.page.close()
-
-
-def begin_with(who: Person, script: str) -> None:
-    """Loads the page anew, with a script that runs before its own."""
-    who.page.begin_with(script)
-    who.reload()
 
 
 def open_echo(who: Person) -> None:
@@ -81,6 +76,15 @@ def wait_until_noted(who: Person) -> None:
     who.page.wait("galluspa.work().head?.desk.notes.length === notes().length")
 
 
+def begin_noted(who: Person) -> None:
+    """Runs the source, types a key, pauses, pins a note there, and waits until all of it is kept."""
+    begin_project(who)
+    who.type("a")
+    who.run_or_pause()
+    pin(who, "first")
+    wait_until_noted(who)
+
+
 def go_on(who: Person, keys: str) -> None:
     """Goes on with the run that is paused, types, and pauses."""
     who.run_or_pause()
@@ -112,11 +116,7 @@ def kept_of(who: Person) -> list[object]:
 def test_work_in_both(tmp_path: Path) -> None:
     """Both tabs write in the source, run it, type, and pin notes. Both are loaded anew right after that, and each has a project of its own, with all of it."""
     with begun(tmp_path) as one:
-        begin_project(one)
-        one.type("a")
-        one.run_or_pause()
-        pin(one, "first")
-        wait_until_noted(one)
+        begin_noted(one)
         with another(one, "two") as two:
             take_up(two)
             expect("what the second tab says", two.page.answer(NOTICE), COPY)
@@ -139,17 +139,12 @@ def test_work_in_both(tmp_path: Path) -> None:
             for who in (one, two):
                 who.page.show()
                 expect("what is kept of both", kept_of(who), wanted)
-                who.expect_sound()
 
 
 def test_note_in_copy(tmp_path: Path) -> None:
     """A note in a copy that nothing was typed into is kept though the page is loaded anew right after it; so is a line of its source."""
     with begun(tmp_path) as one:
-        begin_project(one)
-        one.type("a")
-        one.run_or_pause()
-        pin(one, "first")
-        wait_until_noted(one)
+        begin_noted(one)
         with another(one, "two") as two:
             take_up(two)
             write_first(two, ";Two ")
@@ -159,8 +154,6 @@ def test_note_in_copy(tmp_path: Path) -> None:
             one.reload()
             two.page.show()
             expect("what is kept", kept_of(two), [[";One", "a", ["first"]], [";Two ;One", "a", ["second"]]])
-            for who in (one, two):
-                who.expect_sound()
 
 
 def test_copy_source(tmp_path: Path) -> None:
@@ -184,19 +177,12 @@ def test_copy_source(tmp_path: Path) -> None:
                 found.add(one.page.answer(OPEN)[0])
                 one.reload()
             expect("what is kept", found, {";More ;One", ";Two ;One"})
-            for who in (one, two):
-                who.expect_sound()
-    print("two tabs: a source that both open is a copy in the second one, which says so")
 
 
 def test_take_logged(tmp_path: Path) -> None:
     """What was typed while the database was writing something else, in a tab that was closed right after that, is there in a tab that was open before."""
     with begun(tmp_path) as one:
-        begin_project(one)
-        one.type("a")
-        one.run_or_pause()
-        pin(one, "first")
-        wait_until_noted(one)
+        begin_noted(one)
         with another(one, "two") as two:
             two.page.wait("el('continue').checkVisibility() && !el('continue').disabled")
             one.page.show()
@@ -207,7 +193,6 @@ def test_take_logged(tmp_path: Path) -> None:
             two.page.show()
             take_up(two)
             expect("what is there", two.page.answer(OPEN), [";More ;One", "ab", ["first"]])
-            two.expect_sound()
 
 
 def test_lock_at_once(tmp_path: Path) -> None:
@@ -222,8 +207,6 @@ def test_lock_at_once(tmp_path: Path) -> None:
         two.page.wait(f"{HEADS}.length === 1")
         open_kept(two, "Delete")
         two.page.wait(f"{NOTICE} === '{OPEN_THERE}'")
-        for who in (one, two):
-            who.expect_sound()
 
 
 def test_delete_open(tmp_path: Path) -> None:
@@ -262,17 +245,12 @@ def test_delete_open(tmp_path: Path) -> None:
         two.press("#g-continue")
         two.page.wait(f"{NOTICE} === 'What was kept is no longer there.'")
         expect("whether something is open", two.page.answer("galluspa.work().generation"), 0)
-        for who in (one, two):
-            who.expect_sound()
 
 
 def test_end_one(tmp_path: Path) -> None:
     """A tab whose process is ended leaves its project to the other one, which has all that was kept, and goes on with it."""
     with begun(tmp_path) as one:
-        begin_project(one)
-        one.type("a")
-        one.run_or_pause()
-        pin(one, "first")
+        begin_noted(one)
         with another(one, "two") as two:
             two.choose("other.asm", b"        MOV R1, 1\n")
             two.page.wait(f"{TEXT}.includes('MOV R1, 1')")
@@ -291,19 +269,15 @@ def test_end_one(tmp_path: Path) -> None:
             go_on(two, "c")
             two.reload()
             expect("what is kept of it", kept_of(two), [[";More ;One", "abc", ["first"]]])
-            two.expect_sound()
 
 
 def test_deny_one(tmp_path: Path) -> None:
     """A tab in which nothing can be kept says so, asks before it is left, and changes nothing of what the other one keeps."""
     with begun(tmp_path) as one:
-        begin_project(one)
-        one.type("a")
-        one.run_or_pause()
-        pin(one, "first")
-        wait_until_noted(one)
+        begin_noted(one)
         with another(one, "two") as two:
-            begin_with(two, DENY)
+            two.page.begin_with(DENY)
+            two.reload()
             two.page.wait(
                 "document.querySelector('#g-kept-list p')?.textContent.startsWith('What this browser keeps cannot be read: ')"
             )
@@ -319,4 +293,3 @@ def test_deny_one(tmp_path: Path) -> None:
             go_on(one, "c")
             one.reload()
             expect("what is kept of the other", kept_of(one), [[";One", "ac", ["first"]]])
-            one.expect_sound()

@@ -1,4 +1,4 @@
-"""Where values come from, and each time that a word was executed: what the page's workers answer, against the tools and steps."""
+"""Where values come from: what the page's workers answer, against the tools."""
 
 import json
 import random
@@ -146,7 +146,7 @@ def example(name: str, wanted: Sequence[tuple[str, int]]) -> Asked:
 
 
 def test_understanding(tmp_path: Path) -> None:
-    """The page's links are those of the tools, for random programs and the examples; times of words are those of single steps."""
+    """The page's links are those of the tools, for random programs and the examples."""
     make_programs(tmp_path)
     asked = [*map(random_case, range(RANDOM_PROGRAMS)), *(example(*it) for it in OF_EXAMPLES.items())]
     (tmp_path / "cases.json").write_text(json.dumps([it.for_page() for it in asked]))

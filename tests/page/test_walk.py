@@ -1,4 +1,4 @@
-"""The walk of docs/live.md from an empty page to a program that others can open and check: its mistake is found by where a dot comes from, and by the values of a line;
+"""The walk of docs/live.md from an empty page to a program that others can open and check: its mistake is found by where a dot comes from;
 the project is exported, opened in a browser that has never seen it, and its recording is checked. Each step has real events, with the program, the mended line, the
 words and the command of the document."""
 
@@ -6,21 +6,7 @@ import os
 import re
 from pathlib import Path
 
-from tests.page.driver.shows import (
-    ASSEMBLED,
-    EXACT,
-    FOLLOWED,
-    HEADLINE,
-    JUDGED,
-    LINE,
-    PARTS,
-    ROWS,
-    SOURCE_LINE,
-    SOURCE_SAID,
-    TIMES,
-    WHY,
-    shown,
-)
+from tests.page.driver.shows import ASSEMBLED, EXACT, FOLLOWED, HEADLINE, JUDGED, LINE, PARTS, SOURCE_LINE, SOURCE_SAID, WHY
 from tests.page.driver.desk import CTRL, Desk, expect, fail
 
 from tests.tools import browser
@@ -51,7 +37,6 @@ def test_walk(desk: Desk) -> None:
     write(desk, source, said)
     type_digits(desk)
     ask_why(desk, said)
-    see_each_time(desk, said)
     mend(desk, mended, said)
     desk.press("export")
     name = group(r"recording-of (\S+)", command)
@@ -103,16 +88,6 @@ def ask_why(desk: Desk, said: str) -> None:
     expect("where the links lead", any(group(r"\*(the input key \d+)\*", said) in row for row in rows), True)
     desk.click_on(f"el('why-list').children[{found[1]}].querySelector('button')")
     page.wait(f"{EXACT} && {SOURCE_LINE} === {line_of(said)}")
-
-
-def see_each_time(desk: Desk, said: str) -> None:
-    """Clicks on the number of the line: a table has each time that it was executed."""
-    page = desk.page
-    desk.click_at(*desk.number_of(line_of(said)))
-    page.wait(f"!el('times').hidden && {TIMES} === '{len(KEYS)}'")
-    expect("the title of the table", page.answer(shown("times-title")), group(r"\*(Line \d+, each time)\*", said))
-    rows = page.answer(f"{ROWS}.map((row) => [...row.cells].slice(2, 4).map((cell) => cell.textContent))")
-    expect("what the line read and wrote", rows, [[f"{ord(key):08X}", f"{UNIT * ord(key):08X}"] for key in KEYS])
 
 
 def mend(desk: Desk, line: str, said: str) -> None:

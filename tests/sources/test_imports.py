@@ -26,8 +26,6 @@ LAYERS = (
     "__init__",
     "__main__",
 )
-# What imports a module by its name, once it is used.
-BY_NAME = "with_libraries"
 Modules = Mapping[str, Path]
 
 
@@ -38,7 +36,7 @@ def modules_of(folder: Path) -> dict[str, Path]:
 
 
 def imports_of(path: Path, there: Modules) -> set[str]:
-    """Returns which modules of the package a module imports, also in a function, for types alone, or by `with_libraries`."""
+    """Returns which modules of the package a module imports, also in a function or for types alone."""
     return set(_imported(ast.walk(ast.parse(path.read_text())), there))
 
 
@@ -49,8 +47,6 @@ def _imported(nodes: Iterable[ast.AST], there: Modules) -> Iterator[str]:
         elif isinstance(node, ast.ImportFrom):
             assert not node.level, "imports are absolute"
             names = [f"{node.module}.{it.name}" for it in node.names]
-        elif isinstance(node, ast.Call) and isinstance(node.func, ast.Name) and node.func.id == BY_NAME:
-            names = [str(it.value) for it in node.args if isinstance(it, ast.Constant)]
         else:
             continue
         yield from (_module(name, there) for name in names if name.split(".")[0] == PACKAGE)
@@ -117,7 +113,7 @@ def test_an_upward_import_is_found(tmp_path: Path) -> None:
         tmp_path,
         formats__one="from galluspa.engine import two",
         engine__two="from galluspa.formats.one import it",
-        engine__three="def it() -> None:\n    with_libraries('galluspa.output.four')",
+        engine__three="def it() -> None:\n    import galluspa.output.four",
         output__four="import galluspa.engine.two",
     )
     assert upward(found) == ["engine.three imports output.four", "formats.one imports engine.two"]

@@ -28,8 +28,6 @@ FLAGS = (
     "--force-device-scale-factor=1",
 )
 
-WIDTHS = (420, 800, 1100, 1280, 1920)
-
 # The numbers of keys that do something in a page.
 NUMBERS = {"Backspace": 8, "Tab": 9, "Enter": 13, " ": 32, "ArrowUp": 38, "ArrowDown": 40, "Delete": 46}
 
@@ -40,35 +38,11 @@ SEEN = Path(__file__).with_name("seen.js").read_text()
 PATIENCE = 120
 
 # What the browser traces, so that it is known how long tasks take, and the threads of a page and of its workers.
-MARKS = "blink.user_timing"
-TRACED = {"includedCategories": ["disabled-by-default-devtools.timeline", MARKS], "excludedCategories": ["*"]}
+TRACED = {"includedCategories": ["disabled-by-default-devtools.timeline"], "excludedCategories": ["*"]}
 TASK, MAIN_THREAD, WORKER_THREAD = "RunTask", "CrRendererMain", "DedicatedWorker thread"
 
 # Seconds that a page whose test failed has to show itself once more.
 LAST_PATIENCE = 20
-
-# What is wrong with how the blocks of a page lie that are seen: a page or a block too wide, and two blocks that overlap.
-FAULTS = """
-(() => {
-  const told = [];
-  const page = document.documentElement;
-  for (const it of document.querySelectorAll(".checkpoint, .case, pre")) it.style.contentVisibility = "visible";
-  if (page.scrollWidth > innerWidth) told.push(`the page is ${page.scrollWidth} wide`);
-  const blocks = [...document.querySelectorAll("h1, h2, h3, p, pre, table, dl > div, img, figcaption")].filter((it) => it.checkVisibility());
-  const boxes = blocks.map(it => it.getBoundingClientRect());
-  blocks.forEach((one, at) => {
-    const a = boxes[at];
-    if (a.right > innerWidth || one.scrollWidth > one.clientWidth + 1) told.push(`too wide: ${one.outerHTML.slice(0, 60)}`);
-    blocks.slice(0, at).forEach((other, before) => {
-      const b = boxes[before];
-      const wide = Math.min(a.right, b.right) - Math.max(a.left, b.left);
-      const high = Math.min(a.bottom, b.bottom) - Math.max(a.top, b.top);
-      if (wide > 0.5 && high > 0.5) told.push(`${other.outerHTML.slice(0, 60)} overlaps ${one.outerHTML.slice(0, 60)}`);
-    });
-  });
-  return told;
-})()
-"""
 
 
 class Tasks(list[float]):
@@ -77,29 +51,17 @@ class Tasks(list[float]):
     def __init__(self) -> None:
         super().__init__()
         self.workers: list[float] = []
-        # When each task of a worker began and ended, in microseconds, with its milliseconds; and when the page made its marks.
-        self._timed: list[tuple[float, float, float]] = []
-        self._marks: dict[str, float] = {}
 
     def take(self, traced: list[dict[str, Any]]) -> None:
         """Takes what the browser traced."""
         named = {(it["pid"], it["tid"]): it["args"]["name"] for it in traced if it["name"] == "thread_name"}
         for it in traced:
-            if it.get("cat") == MARKS:
-                self._marks[it["name"]] = it["ts"]
-            elif it["name"] == TASK and "tdur" in it:
+            if it["name"] == TASK and "tdur" in it:
                 thread, ms = named.get((it["pid"], it["tid"])), it["tdur"] / 1000
                 if thread == MAIN_THREAD:
                     self.append(ms)
                 elif thread == WORKER_THREAD:
                     self.workers.append(ms)
-                    self._timed.append((it["ts"], it["ts"] + it["dur"], ms))
-
-    def between(self, begin: str, end: str) -> float:
-        """Returns how many milliseconds of a processor the tasks of all workers took that ran between two marks of the page, those at its
-        ends as a whole: `performance.mark` makes a mark."""
-        first, last = self._marks[begin], self._marks[end]
-        return sum(ms for begun, ended, ms in self._timed if begun < last and ended > first)
 
 
 class Pipe:
@@ -196,10 +158,6 @@ class Page:
         self.resize(width, height)
         self.answer("Promise.all([...document.images].map(it => it.decode()))")
         return base64.b64decode(self._ask("Page.captureScreenshot", format="png")["data"])
-
-    def printed(self) -> bytes:
-        """Returns the page as a printer would get it, as PDF."""
-        return base64.b64decode(self._ask("Page.printToPDF", printBackground=False)["data"])
 
     def leave(self, path: Path) -> None:
         """Writes the whole page as it is seen to PATH.png, and what its console said to PATH.txt."""
@@ -456,28 +414,13 @@ class Page:
         elif method == "Network.requestWillBeSent":
             self.requests.append(told["request"]["url"])
         elif method == "Tracing.dataCollected":
-            self._traced += [it for it in told["value"] if it["name"] in ("thread_name", TASK) or it.get("cat") == MARKS]
+            self._traced += [it for it in told["value"] if it["name"] in ("thread_name", TASK)]
         elif method == "Tracing.tracingComplete":
             self._is_traced = True
         elif method == "Browser.downloadWillBegin":
             self._pipe.begun[told["guid"]] = told["suggestedFilename"]
         elif method == "Browser.downloadProgress" and told["state"] == "completed":
             self._pipe.whole.add(told["guid"])
-
-
-def assert_parts_open(page: Page) -> None:
-    """The three parts of screens that differ are at four times their size, and a click of the mouse on one opens the whole screens."""
-    sizes = page.answer(
-        "[...document.querySelectorAll('.large')].map((it) => [it.naturalWidth, it.naturalHeight, it.width, it.height])"
-    )
-    assert len(sizes) == 3 and all([width, height] == [4 * own, 4 * high] for own, high, width, height in sizes), sizes
-    opened = "[...document.querySelectorAll('.whole figure img')].map((it) => it.checkVisibility())"
-    assert page.answer(opened) == [False] * 3
-    page.answer("document.querySelector('.large').scrollIntoView()")
-    x, y = page.answer("(({ left, top }) => [left + 5, top + 5])(document.querySelector('.large').getBoundingClientRect())")
-    for kind in ("mouseMoved", "mousePressed", "mouseReleased"):
-        page.point(kind, x, y, int(kind == "mousePressed"))
-    assert page.answer(opened) == [True] * 3
 
 
 @dataclass(frozen=True)

@@ -10,7 +10,6 @@ from galluspa.engine.program import Program
 from galluspa.engine.tracing import Run
 from galluspa.formats import recording
 from galluspa.formats.faults import explain_fault
-from galluspa.output.pictures import GONE, SET
 from galluspa.process.timelimit import Limit, TimeIsUp
 from tests.tools.samples import (
     EXAMPLES,
@@ -142,19 +141,6 @@ class ExplainTest(ToolTest):
         none = "None of the 20 instructions before count 8000000 wrote Mem[0EECC8]. The last one before them that wrote it:"
         self.assertIn(none, lines)
         self.assertTrue(any("  4838732      41  A6D00000  STR R6, R13, 0" in line for line in lines))
-
-    def test_marks_are_seen_on_white_and_on_black(self) -> None:
-        """By the contrast that the guidelines for web pages want of pictures, 3 to 1; the two are told apart without red, too."""
-
-        def light(color: tuple[int, int, int]) -> float:
-            parts = [it / 255 for it in color]
-            red, green, blue = (it / 12.92 if it <= 0.04045 else ((it + 0.055) / 1.055) ** 2.4 for it in parts)
-            return 0.2126 * red + 0.7152 * green + 0.0722 * blue
-
-        for color in (SET, GONE):
-            self.assertGreater(1.05 / (light(color) + 0.05), 3)
-            self.assertGreater((light(color) + 0.05) / 0.05, 3)
-        self.assertGreater(abs(SET[2] - GONE[2]), 128)
 
     def test_what_wrote_a_part_long_before_is_told(self) -> None:
         """R5 := 7 twice, the LEDs, a store and a byte that is sent; then R0 counts. A key and a byte come meanwhile."""

@@ -47,7 +47,6 @@ LINES = {
     "rerun": "approved",
     "executed": "suite",
     "bisect": "keys.json --to 1 -- ./right {count}",
-    "shrink": "keys.json -- ./wrong {session}",
     "compare-trace": "stored.orsr counts.csv",
     "slice": "face.orsr --from 1 --to 2",
     "claim": "stored.orsr --at 1 --set R5=9",
@@ -140,7 +139,6 @@ class RefusalsTest(ToolTest):
         for name, content in files.items():
             self.file(name, content)
         self.file("page.html", tool("report", self.folder / "stored.orsr").output)
-        self.executable("wrong", "exit 1")
         self.executable("right", "echo '{\"H\": 0}'")
         (self.folder / "folder").mkdir()
         (self.folder / "loop").symlink_to("loop")
@@ -182,8 +180,6 @@ class RefusalsTest(ToolTest):
         wrong = []
         for row, printed, errors, status in self.all_ended(rows, output):
             line = errors.removesuffix("\n")
-            # `shrink` says first how small the session got.
-            line = line if row.words[0] != "shrink" else line.splitlines()[-1]
             is_told = re.fullmatch(".*".join(map(re.escape, row.told.split("…"))), line) is not None
             # The debugger prints the commands before the one that is refused.
             if (printed and is_silent and row.words[0] != "debug") or status != row.status or not (is_told and line.isprintable()):
@@ -239,9 +235,9 @@ class RefusalsTest(ToolTest):
         self.addCleanup(os.close, broken)
         lines = [([name, *words], f"galluspa {name}") for name, words, _ in self.lines() if name not in SILENT]
         for shell, told, most in STREAMS:
-            # `live` and `shrink` write files first, which are cut off then.
+            # `live` writes a file first, which is cut off then.
             rows = [Row(words, 3, told.format(name=name), shell) for words, name in lines[:most]]
-            self.assert_told([it for it in rows if it.words[0] not in ("live", "shrink") or "prlimit" not in shell])
+            self.assert_told([it for it in rows if it.words[0] != "live" or "prlimit" not in shell])
         self.assert_told([Row(words, 3, f"{name}: standard output: Broken pipe") for words, name in lines[:6]], broken)
         self.assert_told([Row(words, 3, "", '"$@" 2>&1') for words, _ in lines[:6]], broken)
 

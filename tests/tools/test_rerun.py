@@ -54,7 +54,6 @@ flip:   LDR R0, R1, SWITCHES - TIMER
 # The bytes of the device words by which a program learns of inputs.
 POLLED = {"key": range(0xFFFFD8, 0xFFFFE0), "serial": range(0xFFFFC8, 0xFFFFD0), "mouse": range(0xFFFFD8, 0xFFFFDC)}
 POLLED |= {"switches": range(0xFFFFC4, 0xFFFFC8), "timer": range(0xFFFFC0, 0xFFFFC4)}
-LOADS = ("LDR", "LDB")
 
 
 def script(*events: Any, **members: Any) -> str:

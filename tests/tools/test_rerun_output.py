@@ -1,4 +1,4 @@
-"""galluspa rerun: its TAP, its page and its files, and what it refuses."""
+"""galluspa rerun: its TAP and its files, and what it refuses."""
 
 import io
 import json
@@ -12,18 +12,11 @@ from PIL import Image
 from galluspa.analysis.drawing import Mask
 from galluspa.formats.screens import picture
 from galluspa.suites.approvals import dots_differing, pbm_of
-from tests.tools import browser
 from tests.tools.samples import EXAMPLES, GALLUSPA, JUMP, STORED, run, session, tool
 from tests.tools.test_rerun import ECHO, LONGER, RerunsTest, script
 
 
 class OutputTest(RerunsTest):
-    running: browser.Browser
-
-    @classmethod
-    def setUpClass(cls) -> None:
-        cls.running = cls.enterClassContext(browser.browser())
-
     def two(self) -> tuple[Path, Path]:
         """Returns an image and a longer one, and two sessions that are approved, of which one is seen differently on the longer."""
         old, new = self.image("old", ECHO), self.image("new", LONGER)
@@ -66,24 +59,6 @@ class OutputTest(RerunsTest):
         self.assertEqual(self.answers("--image", old, status=1), ["no look it, which is approved; look other is not approved"])
         self.rerun("--image", old, "--approve")
         self.assertEqual(sorted(it.name for it in (self.tests / "b.approved").iterdir()), ["looks.txt", "other.png", "sent.txt"])
-
-    def test_the_page(self) -> None:
-        _, new = self.two()
-        page_file = self.folder / "page.html"
-        self.rerun("--image", new, "--page", page_file, status=1)
-        with self.running.page(page_file) as page:
-            self.assertEqual(page.errors, [])
-            self.assertEqual(page.answer("document.querySelector('h1').innerText"), "1 of 2 as approved")
-            shown: Any = page.answer("[...document.querySelectorAll('.case.bad figcaption')].map(it => it.textContent.trim())")
-            self.assertEqual(shown, ["it as approved", "it now", "what differs of it"])
-            told: Any = page.answer("[...document.querySelectorAll('.part .caption')].map(it => it.textContent)")
-            self.assertEqual((told[0], told[2]), ("it, approved", "what differs: red is set now, blue was"))
-            browser.assert_parts_open(page)
-            self.assertIn("-\\c1<", page.answer("document.querySelector('.case.bad pre').textContent"))
-            self.assertEqual(page.answer("document.querySelectorAll('.case:not(.bad) img').length"), 1)
-            for width in browser.WIDTHS:
-                page.resize(width, 1000)
-                self.assertEqual(page.answer(browser.FAULTS), [], f"{width} points")
 
     def test_dots_that_differ(self) -> None:
         empty = b"P4\n1024 768\n" + bytes(98304)

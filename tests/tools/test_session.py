@@ -68,50 +68,6 @@ class SessionTest(ToolTest):
         text = encoded(1, [], [claim(0, {}, keys=b"\x00")])
         self.assert_refused(tool("session", "--of", self.file("it.orsr", text)), "keys")
 
-    def test_warns_of_an_odd_program_counter(self) -> None:
-        image = self.file("memory.bin", struct.pack("<2I", JUMP, 0))
-        for words, told in (
-            ((), ""),
-            (("--set", "PC=1"), "PC is 1 (it counts words), which is byte 4 (hexadecimal), and the word there is 0"),
-            (("--set", "PC=2"), "PC is 2 (it counts words), which is byte 8, outside the image of the bytes 0 to 7"),
-            (("--at", "0x1000", "--set", "PC=0x1000"), "which is byte 4000, outside the image of the bytes 1000 to 1007"),
-            (("--at", "0x1000", "--set", "PC=0x400"), ""),
-            (("--set", "PC=262144"), "PC is 262,144, beyond the memory"),
-        ):
-            ran = tool("session", "--memory", image, "--checkpoints", 9, *words)
-            self.assertEqual((ran.status, len(ran.errors.splitlines())), (0, bool(told)))
-            self.assertIn(told, ran.errors)
-            self.assertEqual(json.loads(ran.output)["checkpoints"], [9])
-
-    def test_warns_of_an_image_with_the_highest_byte_first(self) -> None:
-        """Of each example, whose right image has no warning, wherever it is loaded."""
-        told = "warning: the words from PC on look like instructions only if the highest byte of each comes first"
-        for source in sorted(EXAMPLES.glob("*.asm")):
-            right = self.folder / f"{source.stem}.bin"
-            self.assertEqual(tool("assemble", source, "--image", right).status, 0)
-            words = right.read_bytes()
-            swapped = b"".join(words[at : at + 4][::-1] for at in range(0, len(words), 4))
-            for at in (0, 0x1000):
-                place = ("--at", at, "--set", f"PC={at // 4}", "--checkpoints", 1)
-                self.assertEqual(tool("session", "--memory", right, *place).errors, "", source)
-                self.assertIn(told, tool("session", "--memory", self.file("it.bin", swapped), *place).errors, source)
-
-    def test_warns_of_a_byte_address(self) -> None:
-        """One outside the image, one where there is 0, and one where there is something else than code."""
-        code, text = (EXAMPLES / "keys.asm").read_text(), "\n    string " + ", ".join(['"This is a text. "'] * 9)
-        for lines, at, pc in (
-            (code, 0x1000, 0x1000),
-            (f"origin 16\n{code}\norigin 400\nword 1", 0, 16),
-            (f"origin 16\n{code}{text}", 0, 16),
-        ):
-            image = self.folder / "it.bin"
-            ran = tool("assemble", self.file("it.asm", lines), "--image", image)
-            self.assertEqual((ran.status, ran.errors), (0, ""))
-            place = ("--memory", image, "--at", at, "--checkpoints", 1)
-            ran = tool("session", *place, "--set", f"PC={pc}")
-            self.assertRegex(ran.errors, f"warning: PC is .*; if it is a byte address, use PC={pc // 4:,}\n$")
-            self.assertEqual(tool("session", *place, "--set", f"PC={pc // 4}").errors, "")
-
     def test_refuses_bad_inputs(self) -> None:
         for line, told in (
             ("1,key", "three cells"),

@@ -111,8 +111,6 @@ class ShownTest(ToolTest):
         image = self.file("it.bin", b"".join(struct.pack("<I", word_of(line)) for line in PROGRAM.split("\n") if line))
         ran = tool("session", "--memory", image, "--set", "PC=Dots.Row", "--every", 1, "--until", 1)
         self.assertEqual((ran.status, json.loads(ran.output)["start"]["PC"]), (0, 4))
-        ran = tool("session", "--memory", image, "--set", "PC=Dots.buf", "--every", 1, "--until", 1)
-        self.assertTrue(ran.errors.endswith("; PC is at Dots.buf\n"), ran.errors)
         self.symbols.write_text("2 d Odd\n4 t Two\n8 t Two\n")
         for name, told in (
             ("Odd", "--set PC: Odd is at byte 2 (hexadecimal), which is not a multiple of 4"),

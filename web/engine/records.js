@@ -1,12 +1,11 @@
 // @ts-check
 /* What instructions did, as the library records it: for each the state before it, its word, what it accessed, and the inputs that came before it. */
-import { operandsOf } from "../formats/instructions.js";
 import { DOES, RECORD_BYTES } from "./library.js";
 import { AT, field, hex, partsOf, STATE_BYTES } from "../formats/states.js";
 
 // What changes with each instruction, or with time.
 const NOT_LISTED = ["PC", "timer", "phase"];
-const BRANCH = 3, ACCESS = 2, STORE = 5;
+const BRANCH = 3;
 
 export class Records {
   /** `after` is the state after the last of the instructions, and `base` the number of the first input that was passed on.
@@ -70,23 +69,6 @@ export class Records {
     if (field(after, AT.stop)) return "stops";
     if (isStore) return `Mem[${hex(addressIn(word ?? 0, before), 6)}] = ${hex(this.view.getUint32(RECORD_BYTES * at + DOES.new, true), 2 * bytes)}`;
     return didText(word, before, after);
-  }
-
-  /** Returns what an instruction read and wrote, as names and texts, and the number that it wrote; that of a branch is where it went. The address of a load or a
-   * store is among what it read.
-   * @param {number} at
-   * @returns {Pick<Execution, "reads" | "writes" | "value">} */
-  execution(at) {
-    const before = this.state(at), after = this.state(at + 1), word = this.word(at), texts = new Map(partsOf(before));
-    /** @type {(name: string, value: number, digits?: number) => Pick<Execution, "writes" | "value">} */
-    const wrote = (name, value, digits) => ({ writes: [[name, digits ? hex(value, digits) : `${value}`]], value });
-    if (word === null || field(after, AT.stop)) return { reads: [], writes: [["", "stops"]], value: null };
-    /** @type {[string, string][]} */
-    const reads = operandsOf(word).map((name) => [name, texts.get(name) ?? ""]), a = word >>> 24 & 15;
-    if (word >>> 30 === BRANCH) return { reads, ...wrote("to", field(after, AT.PC)) };
-    if (word >>> 30 === ACCESS) reads.push(["at", hex(addressIn(word, before), 6)]);
-    if (word >>> 29 === STORE) return { reads, ...wrote("Mem", this.view.getUint32(RECORD_BYTES * at + DOES.new, true), word >>> 28 & 1 ? 2 : 8) };
-    return { reads, ...wrote(`R${a}`, field(after, AT.R + 4 * a), 8) };
   }
 
   /** Returns what an instruction did: its count, its word, the inputs before it, and what it changed: names, and texts of values before and after. The word is

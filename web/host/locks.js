@@ -7,13 +7,16 @@
 const underWay = new Set();
 
 /** Does something with an item, or something that has a name, unless that is under way: of two clicks the first one counts, and the second one is not of another page.
+ * Returns what was done; undefined if it is under way.
+ * @template T
  * @param {string} name
- * @param {() => Promise<void>} task */
+ * @param {() => Promise<T>} task
+ * @returns {Promise<T | undefined>} */
 export async function oneAtATime(name, task) {
-  if (underWay.has(name)) return;
+  if (underWay.has(name)) return undefined;
   underWay.add(name);
   try {
-    await task();
+    return await task();
   } finally {
     underWay.delete(name);
   }

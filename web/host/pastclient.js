@@ -168,17 +168,6 @@ export class Past {
     return this.searching("why", asked);
   }
 
-  /** Returns each time before a count that words of the code were executed. A newer question ends this one, whose answer is null.
-   * @param {Requests["executions"][0]} asked */
-  executions(asked) {
-    return this.ask("executions", asked);
-  }
-
-  /** Ends that. */
-  stopExecutions() {
-    return this.ask("stopExecutions");
-  }
-
   /** Runs the machine again from count 0 to a count, and returns the first part in which it is not what is shown there, or null.
    * @param {number} at */
   recheck(at) {

@@ -13,7 +13,6 @@ import { drawSoon, endPreview } from "./screen/screen.js";
 import { meetBreak } from "./code/search.js";
 import { isPast } from "../host/shown.js";
 import { followGame } from "./screen/snake.js";
-import { followTimes } from "./source/linetimes.js";
 import { showSourceNow } from "./source/source.js";
 import { AT, countOf, field } from "../formats/states.js";
 import { appendSent, showLamps, showStatus } from "./screen/status.js";
@@ -49,7 +48,7 @@ function showFrame(frame) {
   if (wasOn && !frame.on) keepRun();
   // A short run begins and ends between two frames.
   const isMoved = !frame.on && before !== undefined && countOf(before) !== countOf(frame.state);
-  if (wasOn !== frame.on || isMoved) attempt(showAround), showSourceNow(), followTimes();
+  if (wasOn !== frame.on || isMoved) attempt(showAround), showSourceNow();
   if ((wasOn && !frame.on) || isMoved) publish("ended");
   findStop();
 }

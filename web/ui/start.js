@@ -14,7 +14,6 @@ import "./files/board.js";
 import { exportProject } from "./files/exporting.js";
 import { forgetAll, pinOpen, renameOpen, showKept } from "./files/savedlist.js";
 import { showFirst, showLessons } from "./source/lessons.js";
-import { listenToTimes } from "./source/linetimes.js";
 import { listenToListing } from "./code/listing.js";
 import { heardPast } from "./timeline/cursormoves.js";
 import { listenToMemory } from "./code/memory.js";
@@ -60,7 +59,6 @@ function listen() {
   listenToMemory();
   listenToSearch();
   listenToSource();
-  listenToTimes();
   on("lessons", "toggle", showLessons);
   listenToListing();
   listenToNames();

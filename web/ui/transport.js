@@ -7,7 +7,6 @@ import { attempt, el, on } from "../host/elements.js";
 import { goToWritten } from "./going.js";
 import { backToNow, moveCursor, runAgain, runTo, takeOverHere } from "./timeline/cursormoves.js";
 import { watchSelected } from "./code/memory.js";
-import { timesHere } from "./source/linetimes.js";
 import { toggleOther } from "./source/runcomparison.js";
 import { pausePlay, play } from "./timeline/play.js";
 import { setRun } from "./timeline/running.js";
@@ -79,7 +78,7 @@ const KEYS = {
   ",": () => toInput(true), ".": () => toInput(false), "[": () => toClaim(true), "]": () => toClaim(false),
   Home: () => moveCursor(0), End: toNow, PageUp: () => zoom(ZOOM), PageDown: () => zoom(1 / ZOOM), "+": () => zoom(ZOOM), "-": () => zoom(1 / ZOOM),
   "−": () => zoom(1 / ZOOM), "=": () => zoom(ZOOM), c: turnCallRows, g: () => openMore("goto"), "/": () => openMore("search-kind"),
-  n: () => searchAgain(false), N: () => searchAgain(true), b: () => toggleBreak(field(shownState(), AT.PC)), v: timesHere, w: watchSelected, x: toggleOther, i: stepOn, I: stepBack, o: () => stepOver(false), O: () => stepOver(true),
+  n: () => searchAgain(false), N: () => searchAgain(true), b: () => toggleBreak(field(shownState(), AT.PC)), w: watchSelected, x: toggleOther, i: stepOn, I: stepBack, o: () => stepOver(false), O: () => stepOver(true),
   u: () => stepOut(false), U: () => stepOut(true), Escape: endOrNow,
 };
 

@@ -137,10 +137,10 @@ export const LIVE = {
     }
     return null;
   },
-  /** Returns the inputs that the machine took, and its count. */
+  /** Returns the inputs that the machine took, in a replay also those to come, and its count. */
   inputs() {
-    const { next, inputs, count } = machine;
-    return { inputs: Array.from({ length: next }, (_, at) => inputs.item(at)), count };
+    const { next, inputs, count, isReplay } = machine;
+    return { inputs: Array.from({ length: isReplay ? inputs.length : next }, (_, at) => inputs.item(at)), count };
   },
   /** Takes key codes or serial bytes, which wait until the machine takes them. Returns the numbers of the first ones and that of the run which has them; or why
    * they have no effect.

@@ -6,7 +6,6 @@ import { Calls } from "../engine/calls.js";
 import { Activity } from "../engine/activity.js";
 import { Claims } from "../engine/claims.js";
 import { copied } from "../engine/emulator.js";
-import { Executions } from "../engine/executions.js";
 import { KEYFRAME_MS, KEYFRAME_STEPS } from "../engine/feed.js";
 import { Frames } from "../engine/frames.js";
 import { HitLists } from "../engine/hitlists.js";
@@ -82,7 +81,6 @@ export class History {
     this.frames = new Frames(this);
     this.lists = new HitLists(this);
     this.recent = new Recent(this);
-    this.executions = new Executions(this);
     this.writers = new Writers(this);
   }
 
@@ -144,7 +142,6 @@ export class History {
     this.searcher.forget();
     for (const follower of [this.calls, this.frames]) follower.forget();
     this.lists.errand.forget();
-    this.executions.forget();
   }
 
   /** @param {LiveKeyframe} keyframe */

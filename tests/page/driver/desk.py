@@ -236,7 +236,8 @@ class Desk:
 
     def draw(self) -> None:
         """Starts the drawing program, and waits until it runs."""
-        is_there = self.another_machine("el('draw').click()")
+        is_there = self.another_machine("0")
+        self.press("draw")
         self.page.wait(f"{is_there} && {IS_ON} && document.activeElement === el('screen')")
 
     def go_on(self) -> None:
@@ -363,14 +364,6 @@ class Desk:
         """Types a line into the source, and Enter."""
         self.page.insert(text)
         self.page.press("Enter")
-
-    def number_of(self, line: int) -> tuple[float, float]:
-        """Returns where the number of a line is, which is counted from 1, beside the place of its breakpoint."""
-        x, y = self.page.answer(
-            f"(({{ right, top, height }}) => [right - 5, top + height / 2])"
-            f"(el('source').querySelector('.numbers [data-line=\"{line - 1}\"]').parentElement.getBoundingClientRect())"
-        )
-        return x, y
 
     def replace_source(self, text: str) -> None:
         """Pastes a text in place of the whole source."""

@@ -83,9 +83,11 @@ class Person(Desk):
 
 @contextmanager
 def begun(folder: Path) -> Iterator[Person]:
-    """A browser over the profile of a folder, with the page open."""
+    """A browser over the profile of a folder, with the page open, of which nothing may go wrong."""
     with browser.browser(folder / "profile") as running:
-        yield Person(running, folder)
+        who = Person(running, folder)
+        yield who
+        who.expect_sound()
 
 
 def open_kept(who: Person, what: str, number: int = 1) -> None:

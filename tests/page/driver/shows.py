@@ -40,6 +40,5 @@ DRAWN = "darkDots()"
 ASSEMBLED, SOURCE_SAID = "galluspa.source().isAssembled", shown("source-said")
 PARTS, STOP = shown("source-parts"), shown("source-stop")
 SOURCE_LINE = "(sourceField.rows.findIndex((row) => row.classList.contains('here')) + 1)"
-# The table of each time that a line was executed, and how often that was; the links of where a value comes from.
-ROWS, TIMES = "[...el('times-rows').querySelectorAll('[data-count]')]", shown("times-number")
+# The links of where a value comes from.
 WHY = "[...el('why-list').children].map((it) => it.innerText.replace(/\\s+/g, ' '))"

@@ -70,11 +70,6 @@ class Dots:
     top: int
     first: tuple[int, int]
 
-    @property
-    def box(self) -> tuple[int, int, int, int]:
-        """Returns the least x and y of the dots, and their greatest, counted from the left and from below."""
-        return self.left, self.bottom, self.right, self.top
-
     def __str__(self) -> str:
         dots = f"{self.number:,} {'dot' if self.number == 1 else 'dots'}"
         return f"{dots} from {self.left},{self.bottom} to {self.right},{self.top}"

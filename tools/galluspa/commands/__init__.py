@@ -83,7 +83,6 @@ GROUPS = {
         Command("executed", "report which procedures, lines and branches of the program suites execute"),
         Command("bisect", "find the instruction after which another emulator and the machine differ"),
         Command("fuzz", "find a small program on which another emulator and the machine differ"),
-        Command("shrink", "make a session small, as long as a command says that it is still wrong"),
         Command("compare-trace", "find the first line of another emulator's trace that differs from the machine"),
         Command("slice", "cut the segments between two checkpoints out of a recording"),
         Command("claim", "change one claim of a recording"),

@@ -17,7 +17,7 @@ from textwrap import dedent
 from galluspa.analysis.calltrace import Trace
 from galluspa.analysis.explanation import Difference, table
 from galluspa.analysis.naming import named_row
-from galluspa.emulators.oneshot import PLACE, Emulator, Shown, add_command, add_seconds_option, require
+from galluspa.emulators.oneshot import PLACE, Emulator, Shown, add_command, add_seconds_option, has
 from galluspa.engine.initial import recording_of
 from galluspa.engine.library import Library
 from galluspa.engine.machine import Machine, Sent
@@ -200,7 +200,8 @@ def begin(asked: Namespace, run: Run) -> Search:
 
 def main(asked: Namespace) -> int:
     """Prints where the two emulators part."""
-    require(asked.command, PLACE)
+    if not has(asked.command, PLACE):
+        raise Refused(f"put {PLACE} into an argument of COMMAND")
     library, program = Library.find(asked.library), Program.find(asked.program)
     symbols = symbols_for(asked.symbols, asked.session)
     text, to = recording_of(program, asked.session, asked.to)

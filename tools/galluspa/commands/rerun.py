@@ -19,7 +19,7 @@ from galluspa.formats.scripts import STILL
 from galluspa.formats.sessions import COUNTS
 from galluspa.formats.symbolfiles import symbols_for
 from galluspa.process.children import in_parallel
-from galluspa.process.cli import OK, WRONG, Failed, Output, Parser, Refused, make_folder, with_libraries, write_file
+from galluspa.process.cli import OK, WRONG, Failed, Parser, Refused, make_folder, write_file
 from galluspa.process.escapes import printable
 from galluspa.process.timelimit import TimeIsUp
 from galluspa.suites import approvals, storedsessions
@@ -27,7 +27,6 @@ from galluspa.suites.cases import Case, Outcome
 from galluspa.suites.judging import LONGEST, Judge, answered
 from galluspa.suites.outcomes import add_jobs_option, add_output_options, reported
 from galluspa.suites.reruns import Rerun
-from galluspa.suites.runs import Change
 from galluspa.suites.storedsessions import APPROVED, AS_APPROVED, Shelf, Wanted
 
 
@@ -93,24 +92,17 @@ def parser() -> Parser:
     add_jobs_option(options, "run")
     options.add_limit_option("end the run of a session after this many seconds; it is then not as approved")
     add_output_options(options)
-    options.add_argument(
-        "--page",
-        metavar="FILE",
-        type=Output,
-        help="write one page (HTML): each session with the screens that were approved, those of now, and what differs",
-    )
     options.add_symbols_option()
     options.add_machine_options()
     return options
 
 
 class Reruns:
-    """Runs stored sessions, approves or compares them, and keeps what a page shows of them."""
+    """Runs stored sessions, and approves or compares them."""
 
     def __init__(self, asked: Namespace, judge: Judge) -> None:
         self._asked = asked
         self._judge = judge
-        self.shown: dict[str, object] = {}
 
     def outcome(self, case: Case) -> Outcome:
         """Returns how the run of a stored session compares with what was approved."""
@@ -131,8 +123,6 @@ class Reruns:
             return self._judge.approve(case, ran), ()
         judged = self._judge.judged(case)
         self._write(case, judged.ran)
-        if self._asked.page:
-            self.shown[case.name] = with_libraries("galluspa.output.rerunpage").Shown.of(judged)
         return answered(judged), judged.why
 
     def _write(self, case: Case, ran: Rerun) -> None:
@@ -157,8 +147,6 @@ def shelf_of(asked: Namespace, program: Program, named: Path | None, symbols: Pa
 
 def main(asked: Namespace) -> int:
     """Runs stored sessions; the status says whether all is as approved."""
-    if asked.page:
-        with_libraries("galluspa.output.rerunpage")
     program = Program.find(asked.program)
     cases, others = storedsessions.cases_of(asked.folder, APPROVED if asked.approve else AS_APPROVED)
     shelf = shelf_of(asked, program, asked.image, asked.symbols)
@@ -167,14 +155,9 @@ def main(asked: Namespace) -> int:
     shelf.find_names(cases)
     before = shelf_of(asked, program, asked.earlier, None) if asked.earlier else None
     reruns = Reruns(asked, Judge(shelf, Library.find(asked.library), asked.limit, before))
-
-    def page(outcomes: list[Outcome], changes: list[Change] | None) -> bytes:
-        name = printable(asked.folder.resolve().name)
-        return "".join(with_libraries("galluspa.output.rerunpage").page(name, outcomes, changes, reruns.shown)).encode()
-
     for name in others:
         print(f"# {name}: no session")
-    return reported(asked, in_parallel(asked.jobs, reruns.outcome, cases), len(cases), page)
+    return reported(asked, in_parallel(asked.jobs, reruns.outcome, cases), len(cases))
 
 
 def print_script(program: Program, shelf: Shelf, cases: Sequence[Case]) -> int:

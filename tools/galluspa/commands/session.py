@@ -9,13 +9,12 @@ from galluspa.analysis import endings
 from galluspa.engine.program import Program
 from galluspa.formats import sessions
 from galluspa.formats.builds import tell_misfit
-from galluspa.formats.imagewarnings import oddities
 from galluspa.formats.language import LOOPS, STOPS
 from galluspa.formats.recording import MEMORY_BYTES
 from galluspa.formats.sessions import CHECKPOINTS, COUNTS, LONGEST_RUN, Session
 from galluspa.formats.symbolfiles import symbols_for
 from galluspa.formats.symbols import Symbols, address_of
-from galluspa.process.cli import Parser, Refused, complain, number, read_file, write_output
+from galluspa.process.cli import Parser, Refused, number, read_file, write_output
 
 
 def parser() -> Parser:
@@ -141,9 +140,6 @@ def main(asked: Namespace) -> int:
     for assignment in asked.set:
         sessions.set_register(session, with_number(assignment, symbols))
     sessions.check_phase(session)
-    place = symbols.text(4 * session.pc)
-    for odd in oddities(session, asked.at):
-        complain(f"warning: {odd}" + (f"; PC is at {place}" if place else ""))
     session.inputs = sessions.inputs_of(asked.inputs) if asked.inputs else []
     check_counts(asked.checkpoints, asked.every, asked.until, asked.end)
     end = end_of(asked, session) if asked.end else None

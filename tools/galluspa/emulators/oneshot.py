@@ -34,15 +34,9 @@ def add_seconds_option(options: Parser, name: str, seconds: int, each: str = "ea
     options.add_argument(name, metavar="S", type=kind, default=seconds, help=told)
 
 
-def has(words: Sequence[str], *names: str) -> bool:
-    """Returns whether the arguments of a command have one of these names, for which a count or a file is put in."""
-    return any(name in word for word in words for name in names)
-
-
-def require(words: Sequence[str], *names: str) -> None:
-    """Refuses a command whose arguments have none of these names."""
-    if not has(words, *names):
-        raise Refused(f"put {' or '.join(names)} into an argument of COMMAND")
+def has(words: Sequence[str], name: str) -> bool:
+    """Returns whether the arguments of a command have a name, for which a count or a file is put in."""
+    return any(name in word for word in words)
 
 
 def ended(words: Sequence[str], limit: Limit) -> children.Ended:

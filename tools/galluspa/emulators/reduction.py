@@ -47,7 +47,6 @@ class Reducer:
 
     library: Library
     is_still: Callable[[Trial], bool]
-    heard: Callable[[Trial], None] = lambda trial: None
 
     def smallest(self, trial: Trial) -> Trial:
         """Returns a trial in which nothing can be left out any more, as far as was tried."""
@@ -65,22 +64,9 @@ class Reducer:
                 self.simpler_inputs,
             ):
                 trial = step(trial)
-                self.heard(trial)
             if trial == before:
                 break
         return trial
-
-    def earlier_end(self, trial: Trial) -> Trial:
-        """Returns the same that ends earlier, by bisection."""
-        low, best = 0, trial
-        while best.count - low > 1:
-            middle = ended(best, (low + best.count) // 2)
-            if self.is_still(middle):
-                best = middle
-            else:
-                low = middle.count
-            self.heard(best)
-        return best
 
     def later_start(self, trial: Trial) -> Trial:
         """Returns the same that begins later, in the state to which its run leads."""
@@ -98,7 +84,6 @@ class Reducer:
                 back, best = middle, found
             else:
                 without = middle
-        self.heard(best)
         return best
 
     def _from(self, trial: Trial, count: int) -> Trial | None:

@@ -41,8 +41,9 @@ class Commanded:
 
     def answer(self, trial: Trial) -> Shown:
         """Returns what the command prints."""
-        files = files_of(self._words, trial, self._library, self._folder)
-        words = [replaced(word, files) for word in self._words]
+        words = self._words
+        for name, path in files_of(words, trial, self._library, self._folder).items():
+            words = [word.replace(name, path) for word in words]
         return Emulator(words, self._seconds).at(trial.count)
 
     def close(self) -> None:
@@ -60,13 +61,6 @@ def files_of(words: Sequence[str], trial: Trial, library: Library, folder: Path)
         if has(words, name):
             write_file(files[name], content())
     return files
-
-
-def replaced(word: str, files: dict[str, str]) -> str:
-    """Returns a word of a command with the names of files."""
-    for name, path in files.items():
-        word = word.replace(name, path)
-    return word
 
 
 def other_of(words: Sequence[str], seconds: float, library: Library, folder: Path) -> Other:

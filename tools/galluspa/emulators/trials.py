@@ -32,21 +32,6 @@ class Trial:
     phase: int = 0
     inputs: Sequence[Event] = ()
 
-    @staticmethod
-    def of(session: Session, count: int) -> "Trial":
-        """Returns the trial of a session up to a count."""
-        pages = (
-            (at // PAGE_BYTES, session.memory[at : at + PAGE_BYTES].ljust(PAGE_BYTES, b"\0"))
-            for at in range(0, len(session.memory), PAGE_BYTES)
-        )
-        return Trial(
-            registers=tuple(session.registers),
-            pages={slot: page for slot, page in pages if page != NO_PAGE},
-            count=count,
-            **numbers_of(session),
-            inputs=[event for event in session.inputs if event.count < count],
-        )
-
     def session(self) -> Session:
         """Returns the session, with a checkpoint at its end."""
         return Session(
@@ -74,14 +59,18 @@ class Trial:
         first = [(name, value) for name, value in devices.items() if value]
         first += [("key", key) for key in state.keys]
         first += [("serial", state.serial - RECEIVED)] if state.serial else []
-        due = [replace(event, count=event.count - state.count) for event in self.inputs if event.count >= state.count]
-        session = Session(
-            registers=list(state.registers),
+        due = [event for event in self.inputs if state.count <= event.count < self.count]
+        pages = (memory[at : at + PAGE_BYTES] for at in range(0, len(memory), PAGE_BYTES))
+        return Trial(
+            registers=tuple(state.registers),
+            pages={slot: page for slot, page in enumerate(pages) if page != NO_PAGE},
+            count=self.count - state.count,
             **numbers_of(state),
-            memory=memory,
-            inputs=[*(Event(0, KIND_NUMBERS[name], value) for name, value in first), *due],
+            inputs=[
+                *(Event(0, KIND_NUMBERS[name], value) for name, value in first),
+                *(replace(event, count=event.count - state.count) for event in due),
+            ],
         )
-        return Trial.of(session, self.count - state.count)
 
     def words(self) -> dict[int, int]:
         """Returns the words of memory that are not zero, by their numbers."""

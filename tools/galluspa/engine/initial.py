@@ -12,19 +12,15 @@ from galluspa.process.cli import Refused, read_file
 def recording_of(program: Program, path: Path, to: int | None) -> tuple[bytes, int]:
     """Returns a recording that begins as a session or a recording does and has its inputs, and the count up to which it is looked
     at: the one that is given, or that of the last checkpoint."""
-    text, last = _begun(program, path)
-    if not to and not last:
-        raise Refused(f"{path}: no checkpoint: give --to N")
-    return text, to or last
-
-
-def _begun(program: Program, path: Path) -> tuple[bytes, int]:
-    """Returns the recording, and the count of its last checkpoint, or 0."""
     text = read_file(path)
     if text.startswith(b"ORSR"):
-        return text, program.decoded(str(path), text).checkpoints[-1].count
-    session, counts = without_checkpoints(text)
-    return program.recorded(session, f"{path}: neither a recording nor a session: "), counts[-1] if counts else 0
+        counts = [it.count for it in program.decoded(str(path), text).checkpoints]
+    else:
+        session, counts = without_checkpoints(text)
+        text = program.recorded(session, f"{path}: neither a recording nor a session: ")
+    if not (end := to or max(counts, default=0)):
+        raise Refused(f"{path}: no checkpoint: give --to N")
+    return text, end
 
 
 def without_checkpoints(text: bytes) -> tuple[bytes, list[int]]:

@@ -25,7 +25,7 @@ from galluspa.formats.sessions import COUNTS
 from galluspa.interface.names import Symbols
 from galluspa.interface.origins import Origin
 from galluspa.interface.verdicts import Buffer, content, number
-from galluspa.process.cli import Refused, with_libraries
+from galluspa.process.cli import Refused, pillow
 
 if TYPE_CHECKING:
     from PIL.Image import Image
@@ -203,7 +203,7 @@ class Machine:
     def screen(self) -> "Image":
         """Returns the screen as a picture of Pillow, 1,024 by 768 dots of which 0 is black, drawn by the program. Raises Refused if
         Pillow is not installed, or if the program is not there."""
-        image = with_libraries("PIL.Image")
+        image = pillow()
         with image.open(io.BytesIO(screen_of(self._machine, Program.find(None)))) as drawn:
             picture: "Image" = drawn.copy()
         return picture

@@ -1,1 +1,1 @@
-"""What is shown: the pages with their templates, pictures, and the formats of profiles and of traces."""
+"""What is written: the live page with a recording in it, and the formats of profiles and of traces."""

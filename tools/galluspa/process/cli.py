@@ -328,13 +328,13 @@ def write_bytes(content: bytes) -> None:
     sys.stdout.buffer.write(content)
 
 
-def with_libraries(name: str) -> ModuleType:
-    """Returns a module that needs libraries: imported on first use, so that all else runs without them."""
+def pillow() -> ModuleType:
+    """Returns the module of pictures of Pillow: imported on first use, so that all else runs without it."""
     try:
-        return importlib.import_module(name)
+        return importlib.import_module("PIL.Image")
     except ModuleNotFoundError as error:
         is_apart = sys.prefix != sys.base_prefix
-        advice = "pip install Pillow Jinja2" if is_apart else "apt-get install python3-pil python3-jinja2"
+        advice = "pip install Pillow" if is_apart else "apt-get install python3-pil"
         raise Refused(f"{sys.executable} has no {error.name}: {advice}") from error
 
 

@@ -16,7 +16,7 @@ from galluspa.analysis.drawing import Dots, dots_differing
 from galluspa.formats.screens import HEAD, HEADER, HEIGHT, WIDTH, picture
 from galluspa.formats import states
 from galluspa.formats.scripts import LOOK_NAME
-from galluspa.process.cli import Refused, read_file, with_libraries, write_files
+from galluspa.process.cli import Refused, pillow, read_file, write_files
 from galluspa.process.escapes import printable
 from galluspa.suites.reruns import Rerun, Seen
 
@@ -155,14 +155,10 @@ def differences(approved: Approved, ran: Rerun) -> Differences:
 
 
 def _differing_dots(look: Seen, approved: Approved) -> Dots | None:
-    """Returns in which dots that count the screen of a look differs."""
-    return dots_differing(pbm_of(approved.screens[look.name]), pbm_of(look.screen), masks_of(look, approved))
-
-
-def masks_of(look: Seen, approved: Approved) -> Sequence[bytes]:
-    """Returns the bitmaps of the dots that do not count at a look: in this run, and in the one that was approved."""
+    """Returns in which dots the screen of a look differs, but for those that do not count in this run or in the approved one."""
     before = approved.masks.get(look.name)
-    return [*([look.mask] if look.mask else []), *([pbm_of(before)[HEAD:]] if before else [])]
+    masks = [*([look.mask] if look.mask else []), *([pbm_of(before)[HEAD:]] if before else [])]
+    return dots_differing(pbm_of(approved.screens[look.name]), pbm_of(look.screen), masks)
 
 
 def _differing_byte(approved: str, sent: bytes) -> int | None:
@@ -199,7 +195,7 @@ def _cut(text: str) -> str:
 
 def pbm_of(png: bytes) -> bytes:
     """Returns the dots of a golden picture, as the program draws them. Raises Refused for anything but a picture of a screen."""
-    image = with_libraries("PIL.Image")
+    image = pillow()
     try:
         with image.open(io.BytesIO(png), formats=["PNG"]) as picture:
             if picture.size != (WIDTH, HEIGHT):

@@ -3,7 +3,6 @@
 import os
 from argparse import Namespace
 from collections.abc import Callable, Iterable, Iterator, Mapping, Sequence
-from functools import partial
 
 from galluspa.process.cli import FAILED, OK, WRONG, Output, Parser, Refused, complain, progress, write_file
 from galluspa.process.escapes import printable
@@ -33,25 +32,19 @@ def add_output_options(options: Parser) -> None:
     options.add_argument("--junit", metavar="FILE", type=Output, help="write the results as JUnit XML, which CI systems read")
 
 
-# Makes a page of outcomes, and of what changed since an earlier run.
-Page = Callable[[list[Outcome], list[Change] | None], bytes]
-
-
-def reported(asked: Namespace, outcomes: Iterable[Outcome], of: int, page: Page | None = None) -> int:
+def reported(asked: Namespace, outcomes: Iterable[Outcome], of: int) -> int:
     """Prints each outcome as it comes, writes the files of the options, and returns the exit status."""
     before = runs.read_run(asked.before) if asked.before else None
     done = _printed(outcomes, of)
     now = runs.run_of(done) if asked.keep or before is not None else {}
-    changes = None if before is None else runs.changes(before, now)
-    if changes is not None:
-        print("\n".join(_told(changes, asked.before)))
-    contents: dict[Output | None, Callable[[], bytes]] = {
-        asked.keep: lambda: runs.text_of(now).encode(),
-        asked.junit: lambda: runs.junit(printable(asked.folder.resolve().name), done),
-    }
-    if page:
-        contents[asked.page] = partial(page, done, changes)
-    _write(contents)
+    if before is not None:
+        print("\n".join(_told(runs.changes(before, now), asked.before)))
+    _write(
+        {
+            asked.keep: lambda: runs.text_of(now).encode(),
+            asked.junit: lambda: runs.junit(printable(asked.folder.resolve().name), done),
+        }
+    )
     if any(it.has_failed for it in done):
         return FAILED
     return OK if all(it.is_ok for it in done) else WRONG

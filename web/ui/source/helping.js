@@ -19,7 +19,7 @@ const WORDS = /"(?:[^"\\]|\\.)*"|'(?:\\.[0-9A-Fa-f]{0,2}|[^'\\])'|;.*|[A-Za-z_][
 const STRINGS = /"(?:[^"\\]|\\.)*"|'(?:\\.|[^'\\])'/g;
 const DEFINED = /^\s*([A-Za-z_][\w.]*)\s*[:=]/gm;
 /** @type {Help} */
-const OF_HELP = { title: "Help", rows: [["F1", "what a word means"], ["Ctrl+Space, Tab", "names with which it goes on, and the first of them"], ["F4", "each time that the line was executed"], ["Esc", "leaves the source"]], more: [] };
+const OF_HELP = { title: "Help", rows: [["F1", "what a word means"], ["Ctrl+Space, Tab", "names with which it goes on, and the first of them"], ["Esc", "leaves the source"]], more: [] };
 
 /** The word whose help is shown, and the timer of one at which the mouse rests. */
 const rest = { word: "", timer: 0 };

@@ -30,7 +30,7 @@ export function forgetOther() {
   set("other-run", { hidden: true });
 }
 
-/** Runs the previous program again beside the open one, up to a count, and says which line does something else.
+/** Runs the previous program again beside the open one, up to a count, and says which line does something else. A newer comparison ends this one.
  * @param {import("./sourceprogram.js").Running} before
  * @param {import("./sourceprogram.js").Running} now
  * @param {number} end */
@@ -38,14 +38,18 @@ export async function compareRuns(before, now, end) {
   forgetOther();
   const live = new Helper(app.module, () => {}), past = new Past(app.module, () => {}), { generation } = app.work;
   past.connect(live);
-  otherRun = { live, past, end, generation, isShown: false, shifts: [] };
-  const { generation: number } = await live.ask("openSession", { bytes: new TextEncoder().encode(before.session) });
-  past.begin(number);
+  /** @type {NonNullable<typeof otherRun>} */
+  const own = { live, past, end, generation, isShown: false, shifts: [] };
+  otherRun = own;
+  const opened = await live.ask("openSession", { bytes: new TextEncoder().encode(before.session) });
+  if (otherRun !== own) return;
+  past.begin(opened.generation);
   set("other-run", { hidden: false });
   await live.ask("setRun", { on: true, fast: true, goal: end, seconds: 0 });
+  if (otherRun !== own) return;
   const found = await assembler().ask("parting", { one: before.session, other: now.session, to: end, sources: [before, now].map(sourcesOf), seconds: SECONDS });
-  if (!otherRun || !isBeside() || !found) return;
-  otherRun.shifts = found.lines?.shifts ?? [];
+  if (otherRun !== own || !isBeside() || !found) return;
+  own.shifts = found.lines?.shifts ?? [];
   showParting(found);
 }
 

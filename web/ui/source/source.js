@@ -249,17 +249,23 @@ async function runProgram({ program, sources, problems }, session, goal = null) 
   return app.work.generation;
 }
 
-/** Runs the edited program with the inputs of the run before, each at its count, and then live; and finds the first line that does something else. */
-export async function runAgain() {
+/** Runs the edited program with the inputs of the run before, each at its count, and then live; and finds the first line that does something else. While that is
+ * looked for, a text that did not change is not run again. */
+export const runAgain = () => oneAtATime(`version ${sourceEditor().version}`, async () => {
+  const runs = await oneAtATime("a run", runAgainNow);
+  if (!runs?.now) return;
+  el("source-parts").replaceChildren(paragraph("Looking for the first line that does something else ..", "hint"));
+  await compareRuns(runs.first, runs.now, runs.count);
+});
+
+/** Returns the run before, the one that runs now, and the count up to which they are compared; or null, if none was run. */
+async function runAgainNow() {
   const found = await programToRun(), before = runningProgram();
-  if (!found) return;
-  if (!before) return notice("Run this source once first.");
+  if (!found) return null;
+  if (!before) return notice("Run this source once first."), null;
   const { inputs, count } = await app.live.ask("inputs"), session = sessionWith(found.program.session, inputs);
   const goal = inputs.length ? inputs[inputs.length - 1][0] + 1 : null, first = { ...before, session: sessionWith(before.session, inputs) };
-  if ((await runProgram(found, session, goal)) === null) return;
-  const now = runningProgram();
-  el("source-parts").replaceChildren(paragraph("Looking for the first line that does something else ..", "hint"));
-  if (now) await compareRuns(first, now, count);
+  return (await runProgram(found, session, goal)) === null ? null : { first, now: runningProgram(), count: Math.max(count, goal ?? 0) };
 }
 
 /** Returns a session with other inputs.

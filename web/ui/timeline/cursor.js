@@ -1,7 +1,7 @@
 // @ts-check
 /* The cursor of the timeline, which is a slider, and the lanes as lists, for those who do not see them. */
 import { app } from "../../host/app.js";
-import { answerLists } from "./answers.js";
+import { answerTexts } from "./answers.js";
 import { pins } from "../../host/pins.js";
 import { callsList } from "./callslane.js";
 import { el, made, set, write } from "../../host/elements.js";
@@ -68,8 +68,8 @@ export function listLanes() {
     hits: [...latest(hitMarks()).map(([count, , what]) => `${what} at ${grouped(count)}`), ...moreHits()],
     keyframes: [`kept up to ${grouped(nowCount())}`],
   };
-  const answers = answerLists().map(([name, items]) => laneList(name, items));
-  el("lists").replaceChildren(...LANES.filter((lane) => lane !== "notes" || pins.size).map((lane) => laneList(lane, lists[lane])), ...answers);
+  const why = answerTexts();
+  el("lists").replaceChildren(...LANES.filter((lane) => lane !== "notes" || pins.size).map((lane) => laneList(lane, lists[lane])), ...(why.length ? [laneList("why", why)] : []));
 }
 
 /**

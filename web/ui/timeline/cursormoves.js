@@ -122,7 +122,6 @@ export function heardPast(news) {
   else if (news.searched) publish("searched", news.searched);
   else if (news.lastWriter) publish("wrote", news.lastWriter);
   else if (news.why) publish("why", news.why);
-  else if (news.executed) publish("executed", news.executed);
   else if (news.counted) publish("counted", news.counted);
   else if (news.followed) publish("followed", news.followed);
   else if (news.refused || news.broken) notice(news.refused ?? news.broken, true);
