@@ -70,7 +70,6 @@ SUITES: Mapping[str, Suite] = {
         "loadfile",
         {
             "chromium": "chromium",
-            "lcov": "genhtml",
             "mandoc": "mandoc",
             "parallel": "parallel",
             "perl": "prove",
@@ -80,7 +79,6 @@ SUITES: Mapping[str, Suite] = {
             "python3-setuptools": PACKAGES / "setuptools",
             "python3-venv": PACKAGES.parent.parent / "python3.11/ensurepip",
             "python3-wheel": PACKAGES / "wheel",
-            "valgrind": "callgrind_annotate",
         },
     ),
 }

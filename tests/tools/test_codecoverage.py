@@ -14,7 +14,7 @@ from galluspa.formats.recording import WORDS
 from galluspa.formats.symbolfiles import parsed
 from galluspa.formats.symbols import NONE
 from tests.programs import randomly, waiting
-from tests.tools.samples import EXAMPLES, JUMP, TOP, ToolTest, galluspa, record, run, session, tool
+from tests.tools.samples import EXAMPLES, JUMP, ToolTest, record, session, tool
 
 PROGRAMS, MOST = 4, 500
 FRAMES = EXAMPLES / "frames/main.asm"
@@ -98,19 +98,13 @@ class ExecutedTest(ToolTest):
         assembled = tool("assemble", FRAMES, "--symbols", self.sym)
         self.file("suite/frames.orsr", record(assembled.output))
 
-    def test_a_suite_is_counted_in_both_formats(self) -> None:
-        info = self.folder / "it.info"
-        ran = tool("executed", self.folder / "suite", "--info", info)
+    def test_a_suite_is_counted(self) -> None:
+        ran = tool("executed", self.folder / "suite")
         self.assertEqual((ran.status, len(ran.errors.splitlines())), (0, 1), ran.errors)
         lines = ran.output.decode().splitlines()
         self.assertEqual(lines[0], "1 recordings, 7,475 instructions at 80 words")
         self.assertRegex(lines[-1], r"^not executed: Main\.done \(.*frames/main\.asm:16\)$")
         self.assertIn("5 of 5 80 of 81 80 of 81 4 of 4 all", [" ".join(line.split()) for line in lines])
-        text = info.read_text()
-        for line in ("FN:3,Display.Dot", "FNDA:320,Display.Dot", "DA:16,0", "LF:14", "LH:9", "BRF:4", "BRH:4"):
-            self.assertIn(f"\n{line}\n", text)
-        self.assertEqual(run(["genhtml", "-q", "--branch-coverage", "-o", self.folder / "html", info], cwd=TOP).status, 0)
-        self.assertTrue((self.folder / "html/index.html").is_file())
 
     def test_without_names_procedures_have_addresses(self) -> None:
         it = Run.begun(Library.find(None), (self.folder / "suite/frames.orsr").read_bytes())
@@ -129,11 +123,6 @@ class ExecutedTest(ToolTest):
         ran = tool("executed", suite, "--symbols", wrong)
         self.assertEqual((ran.status, ran.output), (2, b""))
         self.assertIn("wrong.sym names nothing that is executed", ran.errors.splitlines()[-1])
-        self.assertIn("--info needs", tool("executed", suite, "--symbols", wrong, "--info", self.folder / "x").errors)
-        full = galluspa("executed", suite, "--info", "/dev/full")
-        self.assertEqual(
-            (full.status, full.errors.splitlines()[1:]), (3, ["galluspa executed: /dev/full: No space left on device"])
-        )
 
     def test_a_recording_that_is_refused_costs_its_own_line(self) -> None:
         self.file("suite/bad.orsr", b"no recording")

@@ -15,10 +15,10 @@ from galluspa.engine.tracing import Run
 from galluspa.formats.recording import WORDS
 from galluspa.formats.symbolfiles import parsed
 from galluspa.formats.symbols import NONE
-from galluspa.output.profileformats import callgrind, difference, text
+from galluspa.output.profileformats import difference, text
 from tests.programs import randomly, waiting
 from tests.tools import naivecalls
-from tests.tools.samples import EXAMPLES, TOP, ToolTest, record, run, tool
+from tests.tools.samples import EXAMPLES, ToolTest, record, tool
 from tests.tools.test_navigation import TREES
 
 FRAMES = EXAMPLES / "frames/main.asm"
@@ -112,18 +112,6 @@ class ProfileTest(ToolTest):
         found = self.assert_exact(0, 92, orsr)
         rows = {it.procedure.name: (it.own, it.inclusive) for it in found.rows()}
         self.assertEqual([rows[name] for name in ("(no name)", "Main", "Leaf", "Tail")], [(2, 0), (40, 0), (40, 20), (10, 30)])
-
-    def test_callgrind_annotate_reads_it(self) -> None:
-        path = self.file("callgrind.out", "".join(f"{line}\n" for line in callgrind(self.profile(), "frames.orsr")))
-        ran = run(["callgrind_annotate", "--inclusive=yes", "--auto=no", path], cwd=TOP)
-        self.assertEqual((ran.status, ran.errors), (0, ""))
-        told = ran.output.decode()
-        self.assertRegex(told, r"7,475 \(100\.0%\)  PROGRAM TOTALS")
-        self.assertRegex(told, r"3,708 \(49\.6\d%\)  \S*shapes\.asm:Shapes\.Column")
-        path = self.file("later.out", "".join(f"{line}\n" for line in callgrind(self.profile(1000, 1100), "frames.orsr")))
-        ran = run(["callgrind_annotate", "--inclusive=yes", "--auto=no", path], cwd=TOP)
-        self.assertEqual((ran.status, ran.errors), (0, ""))
-        self.assertRegex(ran.output.decode(), r"100 \(100\.0%\)  \S*shapes\.asm:Shapes\.Box")
 
     def test_differences_are_by_procedure(self) -> None:
         """Each of eight sides has a dot more: 9 instructions in the loop, and 14 to draw it."""

@@ -262,9 +262,9 @@ class RefusalsTest(ToolTest):
 
 
 def outputs(name: str) -> list[str]:
-    """Returns the options of a command that name a file to write; `executed --info` needs a symbol file first."""
+    """Returns the options of a command that name a file to write."""
     [command] = (it for it in commands() if it.name == name)
-    return [it.option_strings[-1] for it in command.parser()._actions if it.type is Output and it.dest != "info"]
+    return [it.option_strings[-1] for it in command.parser()._actions if it.type is Output]
 
 
 def raw(text: bytes) -> bytes:

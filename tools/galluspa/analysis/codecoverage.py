@@ -6,7 +6,7 @@ from itertools import groupby
 
 from galluspa.analysis.executioncounts import Branch, Executions, is_conditional
 from galluspa.analysis.procedures import Procedure, Procedures
-from galluspa.formats.symbols import Source, Symbols
+from galluspa.formats.symbols import Symbols
 from galluspa.process.escapes import printable
 
 Line = tuple[str, int]
@@ -135,40 +135,6 @@ class CodeCoverage:
             if bool(branch.taken) != bool(branch.passed):
                 never, times = ("not taken", branch.taken) if branch.taken else ("taken", branch.passed)
                 yield f"never {never}: the branch at {self.place(branch.at)}, executed {times:,} times"
-
-    def lcov(self) -> Iterator[str]:
-        """Yields the coverage as lines of a tracefile of lcov, for the lines of sources that are known."""
-        files = sorted({file for it in self.covered for file, _ in it.lines})
-        for file in files:
-            yield "TN:"
-            yield f"SF:{file}"
-            yield from self._lcov_of(file)
-            yield "end_of_record"
-
-    def _lcov_of(self, file: str) -> Iterator[str]:
-        """Yields the lines of a tracefile for a file of sources."""
-        begun = [it for it in self.covered if it.procedure.source.file == file]
-        yield from (f"FN:{it.procedure.source.line},{it.procedure.name}" for it in begun)
-        yield from (f"FNDA:{it.entered},{it.procedure.name}" for it in begun)
-        yield from (f"FNF:{len(begun)}", f"FNH:{sum(it.entered > 0 for it in begun)}")
-        ways = [
-            (source.line, branch, way, count if branch.taken or branch.passed else "-")
-            for source, branch in self._branches_of(file)
-            for way, count in enumerate((branch.taken, branch.passed))
-        ]
-        yield from (f"BRDA:{line},{branch.at},{way},{count}" for line, branch, way, count in ways)
-        yield from (f"BRF:{len(ways)}", f"BRH:{sum(it[3] not in ('-', 0) for it in ways)}")
-        lines: dict[int, int] = {}
-        for (name, line), count in (row for it in self.covered for row in it.lines.items()):
-            if name == file:
-                lines[line] = max(lines.get(line, 0), count)
-        yield from (f"DA:{line},{count}" for line, count in sorted(lines.items()))
-        yield from (f"LF:{len(lines)}", f"LH:{sum(it > 0 for it in lines.values())}")
-
-    def _branches_of(self, file: str) -> list[tuple[Source, Branch]]:
-        """Returns the branches of a file of sources, with their lines, by rising line."""
-        found = ((self.procedures.source(branch.at), branch) for it in self.covered for branch in it.branches)
-        return sorted((it for it in found if it[0].file == file), key=lambda it: (it[0].line, it[1].at))
 
 
 def total(covered: Iterable[Covered]) -> list[Share]:

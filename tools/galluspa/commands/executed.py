@@ -19,7 +19,7 @@ from galluspa.engine.tracing import Run
 from galluspa.formats.builds import tell_misfit
 from galluspa.formats.symbolfiles import symbols_for
 from galluspa.process.children import in_parallel
-from galluspa.process.cli import OK, WRONG, Output, Parser, Refused, progress, write_file
+from galluspa.process.cli import OK, WRONG, Parser, Refused, progress
 from galluspa.process.escapes import printable
 from galluspa.process.timelimit import Limit, TimeIsUp
 from galluspa.suites.cases import Case, cases_of
@@ -42,13 +42,6 @@ def parser() -> Parser:
     options.add_argument("suites", metavar="SUITE", type=Path, nargs="+", help="a folder of recordings, or a recording")
     add_jobs_option(options, "run")
     options.add_symbols_option()
-    options.add_argument(
-        "--info",
-        metavar="FILE",
-        type=Output,
-        help="write the counts of source lines as a tracefile of lcov, which genhtml and CI systems read; "
-        "the symbol file has to have lines",
-    )
     options.add_limit_option("end after this many seconds, and name the recordings that were not counted by then")
     options.add_library_option()
     return options
@@ -102,8 +95,6 @@ def main(asked: Namespace) -> int:
     """Prints what the recordings of suites execute; the status is 1 if one of them was not counted."""
     wanted = cases(asked.suites)
     symbols = symbols_for(asked.symbols, *(it.path for it in wanted))
-    if asked.info and not symbols.has_lines:
-        raise Refused("--info needs a symbol file with source lines (see docs/symbols.md)")
     library = Library.find(asked.library, Limit(asked.limit))
     seen, unread = all_counted(library, wanted, asked.jobs)
     tell_misfit(symbols, lambda: first_memory(library, wanted))
@@ -112,6 +103,4 @@ def main(asked: Namespace) -> int:
         raise Refused(f"{symbols.origin} names nothing that is executed: are these the names of another program?")
     summary = f"{len(wanted) - len(unread):,} recordings, {seen.instructions:,} instructions at {len(seen.visits):,} words"
     sys.stdout.writelines(f"{line}\n" for line in [summary, *(f"not counted: {it}" for it in unread), *found.text()])
-    if asked.info:
-        write_file(asked.info, "".join(f"{line}\n" for line in found.lcov()).encode())
     return WRONG if unread else OK

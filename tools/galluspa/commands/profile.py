@@ -17,9 +17,8 @@ from galluspa.formats.builds import tell_misfit
 from galluspa.formats.sessions import COUNTS
 from galluspa.formats.symbolfiles import symbols_for
 from galluspa.formats.symbols import Symbols
-from galluspa.output.profileformats import callgrind, difference, text
-from galluspa.process.cli import Output, Parser, Refused, progress, read_file, write_file
-from galluspa.process.escapes import printable
+from galluspa.output.profileformats import difference, text
+from galluspa.process.cli import Parser, Refused, progress, read_file
 from galluspa.process.timelimit import Limit
 
 
@@ -46,12 +45,6 @@ def parser() -> Parser:
     )
     add_stack_limit_option(options)
     options.add_symbols_option()
-    options.add_argument(
-        "--callgrind",
-        metavar="FILE",
-        type=Output,
-        help="write the profile in the format of callgrind, for callgrind_annotate and KCachegrind",
-    )
     options.add_limit_option("end after this many seconds")
     options.add_library_option()
     return options
@@ -80,12 +73,9 @@ def profiled(library: Library, path: Path, asked: Namespace, symbols: Symbols) -
 
 
 def main(asked: Namespace) -> int:
-    """Prints the profile of a recording, and writes the file of the option."""
+    """Prints the profile of a recording."""
     library = Library.find(asked.library, Limit(asked.limit))
     profile = profiled(library, asked.recording, asked, symbols_for(asked.symbols, asked.recording))
     other = asked.against and profiled(library, asked.against, asked, symbols_for(asked.symbols, asked.against))
     sys.stdout.writelines(f"{line}\n" for line in (difference(profile, other) if other else text(profile)))
-    if asked.callgrind:
-        lines = callgrind(profile, printable(asked.recording.name))
-        write_file(asked.callgrind, "".join(f"{line}\n" for line in lines).encode())
     return 0

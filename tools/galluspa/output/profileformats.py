@@ -1,14 +1,8 @@
-"""Writes profiles: as text, for callgrind_annotate and KCachegrind, and as what differs between two of them."""
+"""Writes profiles as text, and what differs between two of them."""
 
-import re
-from collections import Counter
 from collections.abc import Iterator
 
-from galluspa.analysis.procedures import Procedure
 from galluspa.analysis.profiles import Profile, Row
-
-COMPRESSED = re.compile(r"^\((?=\d)")
-UNKNOWN_FILE = "(unknown)"
 
 
 def share(some: int, of: int) -> str:
@@ -39,49 +33,6 @@ def share_with_callees(row: Row, profile: Profile) -> str:
 def summary(profile: Profile) -> str:
     """Returns what was counted."""
     return f"{profile.instructions:,} instructions from count {profile.first:,} to {profile.to:,}"
-
-
-def callgrind(profile: Profile, name: str) -> Iterator[str]:
-    """Yields a profile in the format of callgrind: the instructions of each line, and the calls."""
-    yield from (
-        "# callgrind format",
-        "version: 1",
-        "creator: galluspa profile",
-        f"cmd: {name}",
-        "positions: line",
-        "events: Instructions",
-        f"summary: {profile.instructions}",
-    )
-    costs: dict[Procedure, Counter[tuple[str, int]]] = {}
-    for at, visits in sorted(profile.seen.visits.items()):
-        procedure, source = profile.procedures.of(at), profile.procedures.source(at)
-        costs.setdefault(procedure, Counter())[source.file or procedure.source.file, source.line] += visits
-    calls: dict[Procedure, list[tuple[int, Procedure, int]]] = {}
-    for (at, called), number in profile.calls().items():
-        calls.setdefault(profile.procedures.of(at), []).append((at, called, number))
-    for procedure in dict.fromkeys((*costs, *calls)):
-        yield from ("", f"fl={_file(procedure)}", f"fn={_name(procedure)}")
-        for (file, line), cost in costs.get(procedure, Counter()).items():
-            yield from (f"fi={file or UNKNOWN_FILE}", f"{line} {cost}")
-        for at, called, number in calls.get(procedure, ()):
-            cost, source = profile.totals.of_sites[at, called], profile.procedures.source(at)
-            yield from (
-                f"fi={source.file or _file(procedure)}",
-                f"cfi={_file(called)}",
-                f"cfn={_name(called)}",
-                f"calls={number} {called.source.line}",
-                f"{source.line} {cost}",
-            )
-
-
-def _file(procedure: Procedure) -> str:
-    """Returns the file of the source of a procedure."""
-    return procedure.source.file or UNKNOWN_FILE
-
-
-def _name(procedure: Procedure) -> str:
-    """Returns the name of a procedure, which callgrind's reader does not take for a number in place of one."""
-    return COMPRESSED.sub("_", procedure.name)
 
 
 def difference(profile: Profile, other: Profile) -> Iterator[str]:
