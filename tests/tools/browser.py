@@ -73,9 +73,9 @@ class Pipe:
         self._errors = errors
         self._rest = b""
         self._asked = 0
-        # The pages that are open, and the seconds that they have to answer, if there is a limit.
+        # The pages that are open, and the seconds for which a browser may say nothing while something is asked.
         self.pages: list[Page] = []
-        self.limit: float | None = None
+        self.limit = 3 * PATIENCE
         # The files that pages began to save, by the browser's names for the downloads: their own names, and which of them are whole.
         self.begun: dict[str, str] = {}
         self.whole: set[str] = set()
