@@ -244,6 +244,7 @@ def test_survive_other_pages(desk: Desk) -> None:
     forget_all(desk)
     other = page.beside(blank)
     other.answer(WITH_STORE % ODD)
+    page.show()
     desk.reload()
     page.wait("el('kept-list').firstChild")
     texts = page.answer("[...document.querySelectorAll('#g-kept p')].map((it) => it.textContent)")

@@ -14,24 +14,24 @@ def test_write(desk: Desk) -> None:
     page = desk.page
     desk.press("write")
     page.wait("document.activeElement === sourceField.field")
-    for character in "MOV R0, 5":
+    for character in "MVO R0, 5":
         page.insert(character)
     page.press("Enter")
     for character in "loop:":
         page.insert(character)
     desk.type_line("   ADD R0, R0, 1")
-    desk.type_line("MVO R1, 3")
+    desk.type_line("MOV R1, 3")
     desk.type_line("B loop")
     page.wait(f"{ASSEMBLED} && {SOURCE_SAID}.includes('1 problem')")
     said = page.answer("sourceField.rows.map((row) => row.dataset.wrong ?? '').filter(Boolean)")
     expect("what is said below the line", said, ["^ MVO is neither an instruction nor a directive: did you mean MOV?"])
     lines = page.answer("sourceField.lines")
-    expect("the lines", lines[2:7], ["MOV R0, 5", "loop:   ADD R0, R0, 1", "        MVO R1, 3", "        B loop", "        "])
-    expect("how it is said", page.answer("getComputedStyle(sourceField.rows[4], '::after').display"), "block")
+    expect("the lines", lines[2:7], ["MVO R0, 5", "loop:   ADD R0, R0, 1", "        MOV R1, 3", "        B loop", "        "])
+    expect("how it is said", page.answer("getComputedStyle(sourceField.rows[2], '::after').display"), "block")
     desk.press("source-run")
-    desk.expect_notice("what is said without a program", "There is no program yet: 1 problem, the first in line 5[.]")
+    desk.expect_notice("what is said without a program", "There is no program yet: 1 problem, the first in line 3[.]")
     desk.click_on("el('source-said').querySelector('button')")
-    expect("where the caret is", page.answer("sourceField.selected[1]"), [4, 8])
+    expect("where the caret is", page.answer("sourceField.selected[1]"), [2, 0])
     for _ in range(3):
         page.press("Delete")
     page.insert("MOV")
