@@ -126,13 +126,9 @@ class ExecutedTest(ToolTest):
 
     def test_a_recording_that_is_refused_costs_its_own_line(self) -> None:
         self.file("suite/bad.orsr", b"no recording")
+        (self.folder / "suite/it.orsr").symlink_to("/dev/null")
         ran = tool("executed", self.folder / "suite")
         self.assertEqual(ran.status, 1)
         self.assertIn(b"not counted: bad.orsr: cannot read checkpoint 0: the bytes are not a recording\n", ran.output)
         self.assertIn(b"1 recordings, 7,475 instructions", ran.output)
-
-    def test_what_is_not_counted_has_its_name(self) -> None:
-        (self.folder / "suite/it.orsr").symlink_to("/dev/null")
-        self.addCleanup((self.folder / "suite/it.orsr").unlink)
-        ran = tool("executed", self.folder / "suite")
         self.assertIn(b"\nnot counted: it.orsr: not a file\n", ran.output)

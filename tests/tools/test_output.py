@@ -5,16 +5,10 @@ import pty
 import subprocess
 
 from galluspa.formats.recording import page_of
-from tests.tools.samples import EXAMPLES, GALLUSPA, JUMP, STORED, ToolTest, claim, encoded, record, tool
+from tests.tools.samples import EXAMPLES, GALLUSPA, JUMP, STORED, ToolTest, claim, encoded, tool
 
 
 class OutputTest(ToolTest):
-    def test_prints_what_was_sent(self) -> None:
-        hello = self.file("hello.orsr", record((EXAMPLES / "hello.json").read_bytes()))
-        for words, sent in (((), b"Hello, world\n"), (("--at", 1), b"Hello,"), (("--at", 2), b" world\n")):
-            ran = tool("output", hello, *words)
-            self.assertEqual((ran.output, ran.errors, ran.status), (sent, "", 0))
-
     def test_prints_any_bytes(self) -> None:
         """Also of a recording whose claims are false, and of one that sends nothing."""
         every = bytes(range(256))
