@@ -176,9 +176,9 @@ class CostTest(ToolTest):
     def test_procedures_begin_after_jumps_and_not_at_their_labels(self) -> None:
         words = [0] * (1 << 18)
         words[1] = 0xC700000F
-        words[3] = words[5] = words[7] = 0xE7FFFFFC
-        names = parsed(b"0 t Keys.Task\n8 t Keys.Task.loop\n10 t Sum.Task\n18 t Main\n20 t next\n")
-        self.assertEqual(Entries(words, names).all, [0, 0x10, 0x18, 0x20])
+        words[3] = words[5] = words[7] = words[9] = 0xE7FFFFFC
+        names = parsed(b"0 t Keys.Task\n8 t Keys.Task.loop\n10 t Sum.Task\n18 t Main\n1c t Main.Loop\n20 t Main.Loop.key\n28 t next\n")
+        self.assertEqual(Entries(words, names).all, [0, 0x10, 0x18, 0x28])
 
     def test_the_worst_files_cost_little(self) -> None:
         """The largest files there may be, each in a process of its own: the memory that it takes above an empty one, and the time

@@ -51,9 +51,10 @@ class Entries:
         return begins
 
     def _is_label(self, at: int, begin: int) -> bool:
-        """Returns whether the name of an address is that of a label in the procedure that begins before it: `X.y.z` in `X.y`."""
-        name = self._symbols.text(begin)
-        return "." in name and self._symbols.text(at).startswith(f"{name}.")
+        """Returns whether the name of an address is that of a label, `X.y.z`, in the procedure that begins before it: in `X.y`, or
+        in one that has a label `X.y`."""
+        before = self._symbols.text(at).rpartition(".")[0]
+        return "." in before and any(begin <= place < at for place in self._symbols.places(before))
 
     def entry_of(self, at: int) -> int | None:
         """Returns where the procedure begins that an address is in; None if none begins before it."""
