@@ -314,7 +314,7 @@ def test_fill(desk: Desk) -> None:
     }
     for name, text in hostile.items():
         desk.open_source(name, text)
-    desk.open_source("__proto__.asm", hostile["__proto__.asm"])
+    page.wait("sourceField.rows[2]?.dataset.wrong")
     expect(
         "what is said of the last one",
         page.answer(f"[{SOURCE_SAID}, sourceField.rows[2].dataset.wrong]"),
