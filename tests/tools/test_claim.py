@@ -11,8 +11,7 @@ class ClaimTest(ToolTest):
         timed["start"].update(rate=10, phase=3)
         both, of_timer = (stored, newer), (self.file("timed.orsr", record({**timed, "version": 2})),)
         texts = {"R15": both, "flags": both, "serial": both, "rate": of_timer, "phase": of_timer}
-        names = (*(f"R{at}" for at in range(16)), "H", "PC", "flags", "timer", "switches", "LEDs", "mouse", "serial", "stop")
-        for name in (*names, "rate", "phase"):
+        for name in (*(f"R{at}" for at in range(15)), "H", "PC", "timer", "switches", "LEDs", "mouse", "stop", *texts):
             value = {"stop": "4", "phase": "9"}.get(name, "0xF")
             for recorded in texts.get(name, (stored,)):
                 ran = tool("claim", recorded, "--at", 1, "--set", f"{name}={value}")

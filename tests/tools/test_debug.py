@@ -207,7 +207,8 @@ class CommandsTest(FramesTest):
 
     def test_the_procedure_of_the_selected_frame_is_finished(self) -> None:
         lines = self.printed("at 2124; frame 1; finish; at 2124; frame 2; reverse-finish")
-        self.assertEqual((lines[2][0], lines[5][0].split()[:2]), ("the procedure that was called at 1,874 has returned", ["4", "75"]))
+        self.assertIn(" called at 1,874 has returned", lines[2][0])
+        self.assertEqual(lines[5][0].split()[:2], ["4", "75"])
         self.assertIn("3 calls are open at count 2,124", self.ran("at 2124", "frame 3", "finish", status=2).errors)
 
     def test_a_pause_in_an_inner_call_is_no_return(self) -> None:

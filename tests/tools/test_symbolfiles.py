@@ -177,7 +177,7 @@ class CostTest(ToolTest):
         words = [0] * (1 << 18)
         words[1] = 0xC700000F
         words[3] = words[5] = words[7] = words[9] = 0xE7FFFFFC
-        names = parsed(b"0 t Keys.Task\n8 t Keys.Task.loop\n10 t Sum.Task\n18 t Main\n1c t Main.Loop\n20 t Main.Loop.key\n28 t next\n")
+        names = parsed(b"0 t A.Task\n8 t A.Task.loop\n10 t B.Task\n18 t Main\n1c t Main.Loop\n20 t Main.Loop.key\n28 t next\n")
         self.assertEqual(Entries(words, names).all, [0, 0x10, 0x18, 0x28])
 
     def test_the_worst_files_cost_little(self) -> None:

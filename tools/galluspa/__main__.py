@@ -1,6 +1,6 @@
 """The command `galluspa`: as a script of a clone, as `python3 -m galluspa`, and as pip installs it with the program."""
 
-# An interrupt before the command has begun ends it without a traceback; once it runs, `run` sees to it. (The module `signal` imports others, which takes longer.)
+# An interrupt before the command has begun ends it without a traceback. (The module `signal` takes longer: it imports others.)
 import _signal
 
 _signal.signal(_signal.SIGINT, _signal.SIG_DFL)

@@ -288,8 +288,8 @@ def _change(words: Words) -> Raw:
 
 
 def _takes(words: Words) -> tuple[tuple[Raw, ...], Callable[[Step], bool] | None]:
-    """That an input is taken: any, or one of the kind that the next word says, or a key that is dropped. The name of a kind may also
-    begin the next condition, as in switches=3."""
+    """That an input is taken: any, or one of the kind that the next word says, or a key that is dropped. The name of a kind may
+    also begin the next condition, as in switches=3."""
     if words.next == DROPPED:
         words.take()
         return (Raw(TAKES, value=KIND_NUMBERS["key"]),), lambda step: any(dropped(step))

@@ -17,7 +17,8 @@ from galluspa.formats.builds import tell_misfit
 from galluspa.formats.sessions import COUNTS
 from galluspa.formats.symbolfiles import symbols_for
 from galluspa.output import live
-from galluspa.process.cli import OK, REFUSED, WRONG, Parser, Refused, escape_unwritable, read_file
+from galluspa.process.cli import OK, REFUSED, WRONG, Parser, Refused, read_file
+from galluspa.process.streams import escape_unwritable
 from galluspa.process.escapes import printable
 from galluspa.process.timelimit import Limit
 

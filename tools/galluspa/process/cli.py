@@ -13,10 +13,11 @@ import threading
 from collections.abc import Callable, Iterable, Iterator, Mapping, Sequence
 from pathlib import Path
 from types import FrameType, ModuleType
-from typing import Any, BinaryIO, NoReturn, TextIO
+from typing import Any, BinaryIO, NoReturn
 
 from galluspa.process import children
 from galluspa.process.escapes import printable
+from galluspa.process.streams import drop, open_streams
 from galluspa.process.timelimit import TimeIsUp
 
 SECONDS = 600
@@ -215,12 +216,7 @@ def complain(message: str) -> None:
     try:
         print(f"{name}: {printable(message)}", file=sys.stderr, flush=True)
     except OSError:
-        _drop(2)
-
-
-def _drop(descriptor: int) -> None:
-    """Drops what is left for a standard stream that cannot be written: else Python tries it again when it ends, and ends with a status of its own."""
-    os.dup2(os.open(os.devnull, os.O_WRONLY), descriptor)
+        drop(2)
 
 
 def write_file(path: str | Path, content: bytes) -> None:
@@ -360,7 +356,8 @@ def run(main: Callable[[Sequence[str]], int]) -> NoReturn:
 def _status(main: Callable[[Sequence[str]], int]) -> int:
     """Returns the status of a tool. It says in a line what is refused, and what failed."""
     try:
-        _open_streams()
+        if not open_streams():
+            raise Failed(f"standard output: {os.strerror(errno.EBADF)}")
         return main(sys.argv[1:])
     except SystemExit as asked_for_help:
         return asked_for_help.code if isinstance(asked_for_help.code, int) else OK
@@ -385,47 +382,13 @@ def _end(number: int, frame: FrameType | None) -> None:
     children.stop(number)
 
 
-def _open_streams() -> None:
-    """Makes sure that no opened file takes the place of a closed standard stream, and that what can't be written, or read, in the
-    encoding of a stream is escaped."""
-    is_closed = sys.stdout is None
-    while (place := os.open(os.devnull, os.O_RDWR)) <= 2:
-        pass
-    os.close(place)
-    sys.stdin = sys.stdin or open(0, closefd=False)
-    sys.stderr = sys.stderr or open(2, "w", closefd=False)
-    sys.stdout = sys.stdout or open(1, "w", closefd=False)
-    sys.stdout, sys.stderr = _whole(sys.stdout), _whole(sys.stderr)
-    for stream in (sys.stdout, sys.stderr):
-        escape_unwritable(stream)
-    if isinstance(sys.stdin, io.TextIOWrapper):
-        sys.stdin.reconfigure(errors="surrogateescape")
-    if is_closed:
-        raise Failed(f"standard output: {os.strerror(errno.EBADF)}")
-
-
-def _whole(stream: TextIO) -> TextIO:
-    """Returns a stream that writes all that is printed, each line at once, or fails. If Python buffers nothing
-    (PYTHONUNBUFFERED, `python3 -u`), its own stream drops what a disk that is getting full, or a pipe, did not take."""
-    raw = getattr(stream, "buffer", None)
-    if not isinstance(raw, io.RawIOBase):
-        return stream
-    return io.TextIOWrapper(io.BufferedWriter(raw), stream.encoding, stream.errors, line_buffering=True)
-
-
-def escape_unwritable(stream: TextIO, encoding: str | None = None) -> None:
-    """Makes a stream escape what its encoding cannot write; and sets that encoding, if one is given."""
-    if isinstance(stream, io.TextIOWrapper):
-        stream.reconfigure(encoding=encoding, errors="backslashreplace")
-
-
 def _flushed(status: int) -> int:
     """Returns the status after flushing standard output; that of a failure if the flush fails."""
     try:
         sys.stdout.flush()
         return status
     except OSError as error:
-        _drop(1)
+        drop(1)
         if status not in (FAILED, *(128 + it for it in SIGNALS)):
             complain(f"standard output: {_why(error)}")
         return max(status, FAILED)
