@@ -52,7 +52,7 @@ COMBINED: Sequence[tuple[str, Sequence[str]]] = [
     ),
     (
         "shards refused 5 contradiction of lines 1 and 2",
-        ["0 4 4 holds: accepted 4 checkpoints 9 steps", "4 5 5 holds: accepted 4 checkpoints 9 steps"],
+        ["0 4 4 holds: accepted 4 checkpoints 9 steps", "4 5 5 holds: accepted 5 checkpoints 9 steps"],
     ),
     (
         "shards refused 5 contradiction of lines 1 and 2",
@@ -60,6 +60,7 @@ COMBINED: Sequence[tuple[str, Sequence[str]]] = [
     ),
     # a zero too many
     ("shards refused 2 syntax at line 1", ["00 2 2 holds: accepted 2 checkpoints 7 steps"]),
+    ("shards refused 2 syntax at line 1", ["4 5 5 holds: accepted 4 checkpoints 9 steps"]),
 ]
 CUT_LINE = f"shard {FILE} 0 1 2 holds: accepted 2 checkpoints 7 steps\nshard {FILE} 1 2 2 holds: accepted 2 checkpoints 7 ste"
 # What sha256sum prints of crates/oberon_replay/stdin.
