@@ -290,7 +290,11 @@ def _write_all(file: io.FileIO, content: bytes) -> None:
 
 def _replace(path: str | Path, target: Path, content: bytes) -> None:
     """Writes a file beside the one whose place it then takes."""
-    os.replace(_written(path, target, content), target)
+    new = _written(path, target, content)
+    try:
+        os.replace(new, target)
+    finally:
+        new.unlink(missing_ok=True)
 
 
 def _written(path: str | Path, target: Path, content: bytes, number: int = 0) -> Path:

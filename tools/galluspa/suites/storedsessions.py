@@ -106,12 +106,10 @@ class Shelf:
 
 def image_beside(path: Path) -> Path | None:
     """Returns the file that a script names as its image; None if it names none, or is no script."""
+    if not path.name.endswith(scripts.SUFFIX):
+        return None
     try:
-        name = (
-            scripts.read(read_file(path, scripts.MOST_BYTES + 1, is_regular=True)).image
-            if path.name.endswith(scripts.SUFFIX)
-            else None
-        )
+        name = scripts.read(read_file(path, scripts.MOST_BYTES + 1, is_regular=True)).image
     except Refused:
         return None
     return path.parent / name if name else None
