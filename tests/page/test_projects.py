@@ -145,7 +145,7 @@ def test_export(desk: Desk) -> None:
         expect("its branch", other.answer("branchesShown().length"), 1)
         expect("the line that it shows", other.answer(shown("line")), program("check", recording)[0])
         other.answer("document.querySelector('#g-branches button').click()")
-        other.wait(f"galluspa.count() === {old} && galluspa.work().number === 1")
+        other.wait(f"galluspa.count() === {old} && galluspa.work().number === 1 && galluspa.source().isRunning")
         opened.expect_sound()
     page.save_into(desk.folder)
     desk.begin_empty()

@@ -38,7 +38,7 @@ OPEN = f"""
 (() => ({{
   name: galluspa.work().name, branch: galluspa.work().branch, branches: el("branches").textContent.replace("Other branches: ", "").split("; "), text: galluspa.source().isRunning ? {TEXT} : "", sent: {SENT}, notes: notes(),
   breaks: breakpoints(), watches: watched(), count: galluspa.count(), cursor: galluspa.cursor(),
-  isKept: Boolean(galluspa.frame()?.hasOwn),
+  isKept: Boolean(galluspa.frame()?.hasOwn && !galluspa.frame().on),
 }}))()
 """
 KEYS = {

@@ -15,7 +15,7 @@ import { Refusal } from "../../host/requests.js";
 import { smallPicture } from "../screen/screen.js";
 import { isPast, nowCount } from "../../host/shown.js";
 import { sentIn } from "../../formats/recordings.js";
-import { resumeProgram } from "../source/source.js";
+import { findProgram, resumeProgram, takeSources } from "../source/source.js";
 import { openKept, openSource, renameProject } from "../source/sourceautosave.js";
 import { deleteStorage, withStore } from "../../host/storage.js";
 import { resumeNames } from "../code/symbolfiles.js";
@@ -232,8 +232,8 @@ export async function resumed(work, id, branchesOf) {
     Object.assign(work, { sent: live ? body.sent : sentIn(body.recording), head: isOwn ? head : null, isStored: isOwn && end === body.count && Boolean(live), news: work.news + Number(isFree && !isWritten) });
     if (!isFree) work.id = newId(RUN);
     showOpened({ generation, fork, program, ...answer }, work, others);
-    // What is looked at in a branch that one returns to is what was looked at in the one before.
-    if (!isBranch) restore(desk);
+    // What is looked at in a branch that one returns to is what was looked at in the one before; its program runs in a machine of another number.
+    if (!isBranch) restore(desk); else attempt(() => (ran ? takeSources(ran.file, ran.sources) : findProgram()));
     attempt(() => resumeNames(symbols)).then(() => delete work.unshown.symbols);
     // It is what was worked on last from now on.
     if (isFree) keepRunSoon();
