@@ -340,6 +340,9 @@ typedef struct {
  * the calls, one after the other, are those of the whole run. words_len is GALLUSPA_WORDS, turns_len at least 1, and calls_len above
  * *calls_count.
  *
+ * A branch is compared with the open calls that have its R14, so many of these take time: 10,000 made one after the other take 0.3 s, and
+ * 80,000 take 23 s. Who has to answer meanwhile asks for nearer counts.
+ *
  * Returns GALLUSPA_DONE; or GALLUSPA_OUT_OF_RANGE or GALLUSPA_OUT_OF_MEMORY, and then nothing is written. Out of range are, beside what
  * is so for galluspa_advance, calls that no run leaves open: an at that is not below GALLUSPA_WORDS, a back that is not at + 1, counts
  * that do not rise or are not below the state's, and an sp up to limit that is above that of a call before it. All numbers are tested

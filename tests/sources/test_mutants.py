@@ -33,6 +33,7 @@ const LIMIT: u32 = 4;
 """
 MUTANTS = {
     "low.two": ("    1", "    2"),
+    "low.nine": ("    1", "    9"),
     "high.three": ("+ 2", "+ 3"),
     "loose.four": ("    3", "    4"),
     "LIMIT.five": ("= 4", "= 5"),
@@ -40,7 +41,9 @@ MUTANTS = {
     "LIMIT.same": ("LIMIT: u32 = 4", "MAX: u32 = 4"),
     "low.gone": ("    one()", "    2"),
 }
-# What the prover says of a text that does not compile, after its place.
+# What the prover says of a function with a hole for its proof.
+HOLE = "depends on a hole in `Rattle.it.proofs.low.Proof.low_spec`"
+# What it says of a text that does not compile, after its place.
 UNREAD = "error[unknown-name]: no `x` here"
 # Which function has to be refused, of those that are tried alone.
 REFUSED = {"LIMIT.five": "high", "LIMIT.same": "high", "Low.fmt.six": "LowDisplay::fmt"}
@@ -48,28 +51,19 @@ Told = Callable[[str], str]
 Checked = Callable[[str, dict[str, str | None], Iterable[str]], object]
 
 
-def is_changed(name: str) -> bool:
-    """Returns whether a copy has the body of a mutant."""
-    return not name.endswith("_unchanged")
-
-
-def prover(
-    mutants: ModuleType, checks: list[dict[str, str | None]], told: Told, errors: str, told_of: Callable[[str], bool]
-) -> Checked:
+def prover(mutants: ModuleType, checks: list[dict[str, str | None]], told: Told, errors: str) -> Checked:
     """Returns a prover that notes the texts that it gets. Of a function that it is asked for it says what `told` says by its name, of others
-    and of those that are not `told_of` that they have holes, and `errors` before; if that is UNREAD, an error in the function is all that it
-    says."""
+    that they have holes, and `errors` before; if that is UNREAD, an error in the function is all that it says."""
 
     def checked(_crate: str, texts: dict[str, str | None], functions: Iterable[str]) -> object:
         checks.append(texts)
         text = texts["src/lib.rt"] or ""
         asked = [*functions]
         names = [*re.findall(r"fn (\w+)", text), *(it for it in asked if "::" in it)]
-        for name in filter(lambda it: it in asked and told_of(it) and told(it) == UNREAD, names):
-            line = text[: text.index(f"fn {name}")].count("\n") + 2
+        for name in filter(lambda it: it in asked and told(it) == UNREAD, names):
+            line = text[: text.index(f"fn {name}(")].count("\n") + 2
             return mutants.Check(f"src/lib.rt:{line}:5: {UNREAD}\n", 1.0)
-        hole = "depends on a hole in `Rattle.it.proofs.low.Proof.low_spec`"
-        lines = [f"fn it::{name}: {told(name) if name in asked and told_of(name) else hole}" for name in names]
+        lines = [f"fn it::{name}: {told(name) if name in asked else HOLE}" for name in names]
         return mutants.Check("\n".join([errors, *lines, f"only={len(asked)} holes=1", ""]), 1.0)
 
     return checked
@@ -81,10 +75,12 @@ def tried(
     monkeypatch: pytest.MonkeyPatch,
     told: Told,
     errors: str = "",
-    told_of: Callable[[str], bool] = is_changed,
+    *,
+    is_unchanged: bool = False,
+    checks: list[dict[str, str | None]] | None = None,
 ) -> tuple[bool, list[str], list[dict[str, str | None]]]:
     """Returns whether all of these mutants count as refused, the lines about them, and the texts of each check."""
-    mutants, checks = script("mutants"), list[dict[str, str | None]]()
+    mutants, checks = script("mutants"), [] if checks is None else checks
     (folder / "crates/it/src").mkdir(parents=True)
     (folder / "crates/it/src/lib.rt").write_text(SOURCE)
     (folder / "crates/it/proofs/low").mkdir(parents=True)
@@ -97,9 +93,9 @@ def tried(
         alone = f"refused: {REFUSED[name]}\n" if name in REFUSED else ""
         (folder / f"crates/it/mutants/{name}.edit").write_text(f"{alone}file: src/lib.rt\nold: {old}\nnew: {new}\n")
     monkeypatch.setattr(mutants, "TOP", folder)
-    monkeypatch.setattr(mutants, "checked", prover(mutants, checks, told, errors, told_of))
+    monkeypatch.setattr(mutants, "checked", prover(mutants, checks, told, errors))
     trial = mutants.Trial("it", mutants.chosen([])["it"])
-    is_well: bool = trial.run()
+    is_well: bool = trial.run_unchanged() if is_unchanged else trial.run()
     return is_well, trial.lines, checks
 
 
@@ -114,30 +110,67 @@ def stands_on(name: str) -> str:
     return f"not proved; it stands on {answer}, which antt refuses; it calls `it::low`, which is not proved"
 
 
-def test_each_mutant_is_a_copy_of_its_function(tmp_path: Path, monkeypatch: pytest.MonkeyPatch) -> None:
-    """One check tries those of functions, each with its function's contract and answers, and takes a hole for what each other function's
-    proof is; those of a constant and of a trait's method are tried alone."""
-    is_well, lines, checks = tried(tmp_path, ["low.two", "high.three", "LIMIT.five", "Low.fmt.six"], monkeypatch, stands_on)
+def test_each_mutant_is_in_its_functions_place(tmp_path: Path, monkeypatch: pytest.MonkeyPatch) -> None:
+    """One check tries those of functions, and takes a hole for what each other function's proof is; those of a constant and of a trait's
+    method are tried alone."""
+    is_well, lines, checks = tried(tmp_path, ["high.three", "LIMIT.five", "Low.fmt.six"], monkeypatch, stands_on)
     assert is_well
     assert lines == [
         "mutants: it/high.three: refused, as it must be",
-        "mutants: it/low.two: refused, as it must be",
         "mutants: it/LIMIT.five: refused, as it must be (alone)",
         "mutants: it/Low.fmt.six: refused, as it must be (alone)",
-        "mutants: it: 4 of 4 refused, beside 2 unchanged functions, in 3 checks of 3 processor seconds",
+        "mutants: it: 3 of 3 refused, in 3 checks of 3 processor seconds",
     ]
     text = checks[0]["src/lib.rt"] or ""
-    form = "\n\n#[inline(always)]\nfn {}() -> u32\n    ensures one {{ result ≡ 1 }}\n{{\n    {}\n}}"
-    assert form.format("low_mutant_3", 2) + form.format("low_mutant_3_unchanged", 1) in text
-    assert "}\n\nfn high_mutant_2() -> u32 { low() + 3 }\n" in text
     stub = "/// Is low.\n#[inline(always)]\nfn low() -> u32\n    ensures one { result ≡ 1 }\n{\n    unreachable!()\n}\n"
-    assert text.startswith(stub)
-    answers = checks[0]["proofs/low_mutant_3/Answers.antt"]
-    assert answers == "use Rattle.it.proofs.low_mutant_3.Goals as goal\nuse Rattle.it.proofs.lower\n"
+    assert text.startswith(f"{stub}\nfn high() -> u32 {{ low() + 3 }}\n\nfn loose() -> u32 {{\n    unreachable!()\n}}\n")
     hole = "use Rattle.it.proofs.low.Statement.{statement}\n\npub low_spec : {M : Type 1} → statement M\nlow_spec = ?\n"
-    assert checks[0]["proofs/low/Proof.antt"] == hole
+    assert checks[0]["proofs/low/Proof.antt"] == hole and "proofs/high/Proof.antt" not in checks[0]
     alone = checks[1]["src/lib.rt"] or ""
     assert "= 5" in alone and "fn high() -> u32 { low() + 2 }" in alone and "proofs/high/Proof.antt" not in checks[1]
+
+
+def test_several_mutants_of_a_function_are_copies_beside_it(tmp_path: Path, monkeypatch: pytest.MonkeyPatch) -> None:
+    """Each has its contract and its answers, and the function has to be admitted as it stands; a mutant may be what it calls."""
+    names = ["low.two", "low.nine", "high.three"]
+    for said in (HOLE, "not proved; it calls `it::high`, which is not proved", stands_on("high")):
+        folder = tmp_path / str(len(said))
+        is_well, lines, checks = tried(folder, names, monkeypatch, lambda it: said if it == "low" else stands_on(it))
+        assert is_well and lines[-1] == "mutants: it: 3 of 3 refused, in 1 checks of 1 processor seconds"
+        text, form = (
+            checks[0]["src/lib.rt"] or "",
+            "#[inline(always)]\nfn {}() -> u32\n    ensures one {{ result ≡ 1 }}\n{{\n    {}\n}}",
+        )
+        bodies = (form.format(*it) for it in (("low", 1), ("low_mutant_0", 9), ("low_mutant_1", 2)))
+        assert text.startswith("\n\n".join(f"/// Is low.\n{it}" for it in bodies) + "\n\nfn high() -> u32 { low() + 3 }\n")
+        answers = "use Rattle.it.proofs.low_mutant_1.Goals as goal\nuse Rattle.it.proofs.lower\n"
+        assert checks[0]["proofs/low_mutant_1/Answers.antt"] == answers and "proofs/low/Proof.antt" not in checks[0]
+
+
+def test_a_mutant_that_another_one_hides_is_tried_again(tmp_path: Path, monkeypatch: pytest.MonkeyPatch) -> None:
+    """The prover says nothing of a function that calls one without a proof; if it says so of the rest, that fails."""
+    checks, hidden = list[dict[str, str | None]](), "no proof: it calls `it::low`, which is not proved"
+
+    def told(name: str) -> str:
+        return refused(name) if name == "low" or len(checks) == 2 else hidden
+
+    is_well, lines, _ = tried(tmp_path / "once", ["low.two", "high.three"], monkeypatch, told, checks=checks)
+    assert is_well and lines[-1] == "mutants: it: 2 of 2 refused, in 2 checks of 2 processor seconds"
+    assert ["fn high() -> u32 { low() + 3 }" in (it["src/lib.rt"] or "") for it in checks] == [True, True]
+    assert ["    2\n" in (it["src/lib.rt"] or "") for it in checks] == [True, False]
+    is_well, lines, _ = tried(tmp_path / "ever", ["high.three"], monkeypatch, lambda _: hidden)
+    assert not is_well and lines[0] == f"mutants: it/high.three: FAILED: it is not refused for its own proof: {hidden}"
+
+
+def test_the_functions_as_they_are(tmp_path: Path, monkeypatch: pytest.MonkeyPatch) -> None:
+    """Each has to be admitted among the same holes."""
+    is_well, lines, checks = tried(
+        tmp_path / "well", ["low.two", "low.nine", "LIMIT.five"], monkeypatch, lambda _: HOLE, is_unchanged=True
+    )
+    assert is_well and lines == ["mutants: it: 1 functions as they are, in 1 checks of 1 processor seconds"]
+    assert (checks[0]["src/lib.rt"] or "").count("unreachable!()") == 1
+    is_well, lines, _ = tried(tmp_path / "ill", ["high.three"], monkeypatch, refused, is_unchanged=True)
+    assert not is_well and lines[0].startswith("mutants: it: FAILED: refused as it stands: it::high: no proof")
 
 
 def test_a_mutant_that_stays_proved_fails(tmp_path: Path, monkeypatch: pytest.MonkeyPatch) -> None:
@@ -160,12 +193,12 @@ def test_a_mutant_that_is_tried_alone_and_stays_proved_fails(tmp_path: Path, mon
     assert lines[0] == "mutants: it/LIMIT.same: FAILED: it is proved: no holes"
 
 
-def test_a_mutant_that_cannot_be_copied_names_what_is_refused(tmp_path: Path, monkeypatch: pytest.MonkeyPatch) -> None:
+def test_a_mutant_of_no_function_names_what_is_refused(tmp_path: Path, monkeypatch: pytest.MonkeyPatch) -> None:
     """Else nothing says which contract it breaks."""
     monkeypatch.delitem(REFUSED, "LIMIT.five")
     is_well, lines, checks = tried(tmp_path, ["LIMIT.five"], monkeypatch, refused)
     assert not is_well and not checks
-    assert lines[0].startswith("mutants: it/LIMIT.five: FAILED: it can't be copied, and no line `refused:` names")
+    assert lines[0].startswith("mutants: it/LIMIT.five: FAILED: it changes no function alone, and no line `refused:` names")
 
 
 def test_a_mutant_that_does_not_compile_fails(tmp_path: Path, monkeypatch: pytest.MonkeyPatch) -> None:
@@ -177,9 +210,9 @@ def test_a_mutant_that_does_not_compile_fails(tmp_path: Path, monkeypatch: pytes
     assert lines == [
         "mutants: it/loose.four: FAILED: it does not compile, so no contract was tried: no `x` here",
         "mutants: it/low.two: refused, as it must be",
-        "mutants: it: 1 of 2 refused, beside 2 unchanged functions, in 2 checks of 2 processor seconds",
+        "mutants: it: 1 of 2 refused, in 2 checks of 2 processor seconds",
     ]
-    assert ["fn loose_mutant_0()" in (it["src/lib.rt"] or "") for it in checks] == [True, False]
+    assert ["    4\n" in (it["src/lib.rt"] or "") for it in checks] == [True, False]
 
 
 def test_a_mutant_that_is_refused_for_a_callee_fails(tmp_path: Path, monkeypatch: pytest.MonkeyPatch) -> None:
@@ -192,8 +225,8 @@ def test_a_mutant_that_is_refused_for_a_callee_fails(tmp_path: Path, monkeypatch
 
 def test_a_mutant_whose_answers_name_what_it_takes_away_fails(tmp_path: Path, monkeypatch: pytest.MonkeyPatch) -> None:
     """But it counts as refused if another of its answers is false."""
-    missing = "./proofs/low_mutant_0/Answers.antt:5:22: error: `returns`: record `Start` has no field `low-step`"
-    false = "./proofs/low_mutant_0/Answers.antt:5:9: error: `returns`: `rw` has no last argument"
+    missing = "./proofs/low/Answers.antt:5:22: error: `returns`: record `Start` has no field `low-step`"
+    false = "./proofs/low/Answers.antt:5:9: error: `returns`: `rw` has no last argument"
     is_well, lines, _ = tried(tmp_path / "missing", ["low.two"], monkeypatch, stands_on, missing)
     assert not is_well
     assert lines[0].startswith("mutants: it/low.two: FAILED: its answers name what it takes away, so no contract was tried: ")
@@ -209,13 +242,13 @@ def test_a_mutant_whose_old_text_is_gone_fails(tmp_path: Path, monkeypatch: pyte
 
 
 def test_a_function_that_is_not_proved_fails(tmp_path: Path, monkeypatch: pytest.MonkeyPatch) -> None:
-    """A refusal beside it says little, be it of another function or of a copy of the same one as it is."""
-    names = ["low.two"]
-    is_well, lines, _ = tried(tmp_path / "other", names, monkeypatch, lambda it: refused(it) + "\nfn it::other: not proved")
-    assert not is_well and lines[1] == "mutants: it: FAILED: refused as it stands: it::other: not proved"
-    is_well, lines, _ = tried(tmp_path / "same", names, monkeypatch, refused, told_of=lambda _: True)
-    assert not is_well
-    assert lines[1].startswith("mutants: it: FAILED: refused as it stands: it::low_mutant_0_unchanged: no proof")
+    """A refusal beside it says little, be it of another function or of the same one as it stands."""
+    is_well, lines, _ = tried(
+        tmp_path / "other", ["low.two"], monkeypatch, lambda it: refused(it) + "\nfn it::other: no proof: `x`"
+    )
+    assert not is_well and lines[1] == "mutants: it: FAILED: refused as it stands: it::other: no proof: `x`"
+    is_well, lines, _ = tried(tmp_path / "same", ["low.two", "low.nine"], monkeypatch, refused)
+    assert not is_well and lines[2].startswith("mutants: it: FAILED: refused as it stands: it::low: no proof")
 
 
 def test_an_unknown_name_is_refused() -> None:
@@ -230,9 +263,10 @@ def test_kept(tmp_path: Path, monkeypatch: pytest.MonkeyPatch, capsys: pytest.Ca
     mutants, folder, tried = script("mutants"), tmp_path / "top", list[list[str]]()
     is_refused = True
 
-    def trial(_crate: str, left: Sequence[SimpleNamespace]) -> tuple[bool, set[str]]:
-        tried.append([it.name for it in left])
-        return is_refused, {it.name for it in left} if is_refused else set()
+    def run(trial: SimpleNamespace) -> bool:
+        tried.append([it.name for it in trial.mutants])
+        trial.refused |= {it.name for it in trial.mutants} if is_refused else set()
+        return is_refused
 
     edits = {
         f"mutants/{name}.edit": "file: src/lib.rt\nold: {}\nnew: {}\n".format(*MUTANTS[name]) for name in ("loose.four", "low.two")
@@ -243,7 +277,8 @@ def test_kept(tmp_path: Path, monkeypatch: pytest.MonkeyPatch, capsys: pytest.Ca
     (folder / "crates/under/specs").mkdir(parents=True)
     (folder / "crates.txt").write_text("under:\nit: under hex\n")
     monkeypatch.setattr(mutants, "TOP", folder)
-    monkeypatch.setattr(mutants, "tried", trial)
+    monkeypatch.setattr(mutants.Trial, "run", run)
+    monkeypatch.setattr(mutants, "slots", lambda: 2)
     monkeypatch.setenv("XDG_CACHE_HOME", str(tmp_path / "cache"))
     monkeypatch.setattr(mutants.subprocess, "run", lambda *_, **__: SimpleNamespace(stdout=b"a kit\n"))
     both = ["loose.four", "low.two"]
