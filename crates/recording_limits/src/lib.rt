@@ -8,4 +8,6 @@ mod laws;
 mod limits;
 
 pub use laws::limits_law;
-pub use limits::{LAST_CHECKPOINT, LONGEST_SESSION, MAX_EVENTS, MAX_OUTPUT, MAX_PAGES};
+pub use limits::{
+    LAST_CHECKPOINT, LONGEST_SESSION, MAX_EVENTS, MAX_EVENTS_WITH_DISK, MAX_OUTPUT, MAX_PAGES,
+};
