@@ -2,11 +2,11 @@
 use Rattle.std.proofs.Common.{◌≡◌, ℕ, true, false, [], ◌∷◌, Some, None, refl}
 use Rattle.risc_devices.specs.DeviceState.{DeviceState, zero_devices as idle, is_phase}
 use Rattle.risc_devices.specs.DeviceWords.{read_value, after_read, after_write, sent_byte}
-use Rattle.risc_devices.specs.Input.{taken_value, is_input, is_mouse}
+use Rattle.risc_devices.specs.Input.{taken_value, is_input, is_input_with_disk, is_mouse}
 use Rattle.risc_devices.specs.Ticks.{ticked, ticked_times}
 use Rattle.risc_devices.specs.KeyCodes.{joined}
 use Rattle.risc_devices.specs.Picture.{picture_head, dot}
-use Rattle.risc_devices.specs.declared.kind.Kind.TheVariants.{Key, Serial}
+use Rattle.risc_devices.specs.declared.kind.Kind.TheVariants.{Key, Serial, Disk}
 
 -- the mouse word's mask, and each bit that is not in it
 mask : is_mouse 0x073FF3FF ≡ true
@@ -29,6 +29,11 @@ bits_27_and_31 = refl
 no_inputs : ((is_input 6 0) ∷ (is_input 0 0) ∷ (is_input 2 4096) ∷ (is_input 4 256) ∷ (is_input 5 256) ∷ []) ≡ (false ∷ false ∷ false ∷ false ∷ false ∷ [])
 unfolding is_input
 no_inputs = refl
+
+-- an answer is any word, and an input with a disk alone; the disk has no input that is not one
+disk_inputs : ((is_input 6 0) ∷ (is_input_with_disk 6 0) ∷ (is_input_with_disk 6 0xFFFFFFFF) ∷ (is_input_with_disk 6 0x100000000) ∷ (is_input_with_disk 7 0) ∷ (is_input_with_disk 5 255) ∷ []) ≡ (false ∷ true ∷ true ∷ false ∷ false ∷ true ∷ [])
+unfolding is_input is_input_with_disk
+disk_inputs = refl
 
 -- a key waits, is shown beside the mouse, is read and is gone
 key_shown : read_value (taken_value Key 0x41 idle) 6 ≡ 0x10000000
@@ -68,6 +73,15 @@ nothing_sent = refl
 leds_lit : after_write idle 1 0x1A5 ≡ record idle { leds = 0xA5 }
 unfolding after_write
 leds_lit = refl
+
+-- the disk has not answered; its answer is read again and again, also after a write to its words
+no_answer : ((read_value idle 4) ∷ (read_value idle 5) ∷ []) ≡ (255 ∷ 1 ∷ [])
+unfolding read_value
+no_answer = refl
+
+answered : read_value (after_write (after_write (after_read (taken_value Disk 0x12345678 idle) 4) 4 0x40) 5 5) 4 ≡ 0x12345678
+unfolding read_value after_read after_write taken_value
+answered = refl
 
 -- the leftmost dot of the lowest line of a display of one word
 corner : ((dot (1 ∷ []) 0 0) ∷ (dot (1 ∷ []) 1 0) ∷ []) ≡ (1 ∷ 0 ∷ [])

@@ -3,12 +3,14 @@
 use Rattle.std.specs.Prelude.{ℕ, ◌+◌, ◌/◌, ◌%◌, ◌^◌, ◌<◌, ◌≤◌, Bool, false, ◌==◌}
 use Rattle.std.specs.Prelude.{nat_lt, if◌then◌else◌, IsTrue, List, [], length, All}
 use Rattle.risc_devices.specs.InputKind.{is_mouse}
+use Rattle.risc_devices.specs.declared.disk.TheConstants.{UNANSWERED}
 
 -- the state of the devices. The timer counts milliseconds: `rate` is the number of instructions in a millisecond, 0 for a timer
 -- that inputs alone set, and `phase` is how many of them are done (both are this project's own choice). The buttons are bits 11
 -- to 8 of `switches`, and the switches bits 7 to 0. `serial` is the byte that the serial line holds, and `received` says whether
 -- it came since the last read. That the line holds one byte, and keeps it after it is read, is this project's own choice. `keys`
--- are the waiting key codes, oldest first
+-- are the waiting key codes, oldest first. `disk` is what the disk answered last, the word that device word 4 reads; its answers
+-- are inputs, and nothing else of the disk is a part of the machine (this project's own choice)
 pub record DeviceState : Type 0 where
   pub timer : ℕ
   pub rate : ℕ
@@ -19,10 +21,22 @@ pub record DeviceState : Type 0 where
   pub serial : ℕ
   pub received : Bool
   pub keys : List ℕ
+  pub disk : ℕ
 
--- devices that are all zeros, with no keys
+-- devices that are all zeros, with no keys, before the disk's first answer
 abbrev pub zero_devices : DeviceState
-zero_devices = record { timer = 0; rate = 0; phase = 0; switches = 0; leds = 0; mouse = 0; serial = 0; received = false; keys = [] }
+zero_devices = record {
+  timer = 0;
+  rate = 0;
+  phase = 0;
+  switches = 0;
+  leds = 0;
+  mouse = 0;
+  serial = 0;
+  received = false;
+  keys = [];
+  disk = UNANSWERED;
+}
 
 -- a phase is below its rate, or 0 if the rate is 0 (this project's own choice)
 unfoldable pub is_phase : ℕ → ℕ → Bool
@@ -43,12 +57,13 @@ pub record IsDeviceState (d : DeviceState) : Type 0 where
   pub serial : d.serial < 2 ^ 8
   pub keys : length d.keys ≤ 16
   pub codes : All (λ code. code < 2 ^ 8) d.keys
+  pub disk : d.disk < 2 ^ 32
 
 -- the byte on the serial line and "received" as one number, whose bit 8 is "received" (this project's own choice)
 abbrev pub serial_number : DeviceState → ℕ
 serial_number d = d.serial + (if d.received then 2 ^ 8 else 0)
 
--- the devices with these parts, the serial line's given as one number (this project's own choice)
+-- the devices with these parts, the serial line's given as one number, before the disk's first answer (this project's own choice)
 abbrev pub state_of_parts : ℕ → ℕ → ℕ → ℕ → ℕ → ℕ → ℕ → List ℕ → DeviceState
 state_of_parts timer rate phase switches leds mouse serial keys = record {
   timer = timer;
@@ -60,6 +75,7 @@ state_of_parts timer rate phase switches leds mouse serial keys = record {
   serial = serial % 2 ^ 8;
   received = serial / 2 ^ 8 == 1;
   keys = keys;
+  disk = UNANSWERED;
 }
 
 -- the parts of devices whose types in `Devices::new` are wider than their ranges are in range. The others always are: the timer and

@@ -1,7 +1,8 @@
 -- What the sixteen device words read, and what reads and writes of them do ("Project Oberon" 2013, the hardware chapters, for
--- words 0 to 3, 6 and 7). This project's own choice are: the constants of words 4 and 5; the zeros of words 8 to 15, and of word
--- 7 if no key code waits; that the serial line is always ready to send, and that the byte received stays readable; and that
--- writes to words other than 1 and 2 do nothing.
+-- words 0 to 3, 6 and 7). This project's own choice are: that word 4 reads what an input set, and the constant of word 5; the zeros
+-- of words 8 to 15, and of word 7 if no key code waits; that the serial line is always ready to send, and that the byte received
+-- stays readable; and that writes to words other than 1 and 2 do nothing. So what a program writes to the SPI bus is seen outside
+-- the machine alone, where a disk answers it by inputs.
 use Rattle.std.specs.Prelude.{ℕ, ◌+◌, ◌%◌, ◌^◌, false, ◌==◌, if◌then◌else◌, drop, Option, Some, None}
 use Rattle.risc_devices.specs.DeviceState.{DeviceState}
 use Rattle.risc_devices.specs.KeyCodes.{oldest, key_bit}
@@ -9,15 +10,15 @@ use Rattle.risc_devices.specs.declared.words.TheConstants.{TIMER, SWITCHES, LEDS
 use Rattle.risc_devices.specs.declared.words.TheConstants.{SPI_DATA, SPI_STATUS, MOUSE, KEYBOARD}
 
 -- the word that a read of a device word returns: 0 the timer, in milliseconds; 1 the buttons and switches; 2 the serial line's
--- byte; 3 whether a byte was received (bit 0), and that one may be sent (bit 1), which is always set; 4 and 5 the constants 255
--- and 1; 6 the mouse word, with bit 28 set if and only if a key code waits; 7 the oldest key code; 8 to 15 zero
+-- byte; 3 whether a byte was received (bit 0), and that one may be sent (bit 1), which is always set; 4 what the disk answered
+-- last; 5 the constant 1; 6 the mouse word, with bit 28 set if and only if a key code waits; 7 the oldest key code; 8 to 15 zero
 unfoldable pub read_value : DeviceState → ℕ → ℕ
 read_value d word =
     if word == TIMER then d.timer
     else if word == SWITCHES then d.switches
     else if word == SERIAL_DATA then d.serial
     else if word == SERIAL_STATUS then 2 + (if d.received then 1 else 0)
-    else if word == SPI_DATA then 255
+    else if word == SPI_DATA then d.disk
     else if word == SPI_STATUS then 1
     else if word == MOUSE then d.mouse + key_bit d.keys
     else if word == KEYBOARD then oldest d.keys

@@ -3,6 +3,7 @@ use Rattle.std.specs.Prelude.{ℕ, ◌≡◌, ◌/◌, ◌%◌, ◌^◌, ◌<◌
 use Rattle.risc_devices.specs.InputKind.{is_mouse}
 use Rattle.risc_devices.specs.declared.words.TheConstants as word
 use Rattle.risc_devices.specs.declared.kinds.TheConstants as kind
+use Rattle.risc_devices.specs.declared.disk.TheConstants.{UNANSWERED}
 
 -- bit i of a number is set
 abbrev pub HasBit : ℕ → ℕ → Type 0
@@ -35,7 +36,9 @@ pub record HasKindNumbers : Type 0 where
   pub mouse : kind.MOUSE ≡ 3
   pub key : kind.KEY ≡ 4
   pub serial : kind.SERIAL ≡ 5
+  pub disk : kind.DISK ≡ 6
 
--- each device word and each kind has its number, so that a mistyped one cannot change a definition unnoticed
+-- each device word and each kind has its number, and the word of a disk without an answer its value, so that a mistyped one cannot
+-- change a definition unnoticed
 abbrev pub DeviceNumbersLaw : Type 0
-DeviceNumbersLaw = HasWordNumbers × HasKindNumbers
+DeviceNumbersLaw = HasWordNumbers × HasKindNumbers × (UNANSWERED ≡ 255)

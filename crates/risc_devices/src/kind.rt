@@ -1,9 +1,9 @@
 //! The kinds of inputs, and the values that each takes. What an input does is in `devices`.
 
 ghost use Rattle.std.specs.Prelude.{◌≡◌, ℕ, false, MatchOption};
-ghost use Rattle.risc_devices.specs.InputKind.{kind_number, is_input, is_mouse};
+ghost use Rattle.risc_devices.specs.InputKind.{kind_number, is_input_with_disk, is_mouse};
 
-use crate::kinds::{KEY, MOUSE, SERIAL, SWITCHES, TIMER};
+use crate::kinds::{DISK, KEY, MOUSE, SERIAL, SWITCHES, TIMER};
 
 /// The kind of an input.
 #[derive(Clone, Copy, Debug, PartialEq, Eq)]
@@ -13,13 +13,14 @@ pub(crate) enum Kind {
     Mouse,
     Key,
     Serial,
+    Disk,
 }
 
 impl Kind {
     /// Returns the kind with a number, which `kinds` names.
-    #[tactic(auto, unfolding(crate::specs::InputKind::is_input))]
+    #[tactic(auto, unfolding(crate::specs::InputKind::is_input, crate::specs::InputKind::is_input_with_disk))]
     pub(crate) fn from_number(number: u8) -> Option<Kind>
-        ensures { MatchOption result ((value : ℕ) → is_input number value ≡ false) (λ kind. kind_number kind ≡ number) }
+        ensures { MatchOption result ((value : ℕ) → is_input_with_disk number value ≡ false) (λ kind. kind_number kind ≡ number) }
     {
         match number {
             TIMER => Some(Kind::Timer),
@@ -27,11 +28,12 @@ impl Kind {
             MOUSE => Some(Kind::Mouse),
             KEY => Some(Kind::Key),
             SERIAL => Some(Kind::Serial),
+            DISK => Some(Kind::Disk),
             _ => None,
         }
     }
 
-    /// Returns the kind's number, from 1 to 5.
+    /// Returns the kind's number, from 1 to 6.
     #[inline]
     pub(crate) fn number(self) -> u8
         ensures { result ≡ kind_number self }
@@ -42,16 +44,17 @@ impl Kind {
             Kind::Mouse => MOUSE,
             Kind::Key => KEY,
             Kind::Serial => SERIAL,
+            Kind::Disk => DISK,
         }
     }
 
     /// Reports whether an input of this kind may have the value.
-    #[tactic(auto, unfolding(crate::specs::InputKind::is_input))]
+    #[tactic(auto, unfolding(crate::specs::InputKind::is_input, crate::specs::InputKind::is_input_with_disk))]
     pub(crate) fn takes(self, value: u32) -> bool
-        ensures { result ≡ is_input (kind_number self) value }
+        ensures { result ≡ is_input_with_disk (kind_number self) value }
     {
         match self {
-            Kind::Timer => true,
+            Kind::Timer | Kind::Disk => true,
             Kind::Switches => value < 1 << 12,
             Kind::Mouse => is_mouse_word(value),
             Kind::Key | Kind::Serial => value < 1 << 8,

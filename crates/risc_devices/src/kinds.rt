@@ -14,3 +14,6 @@ pub const KEY: u8 = 4;
 
 /// A byte that comes on the serial line.
 pub const SERIAL: u8 = 5;
+
+/// A word that the disk answers.
+pub const DISK: u8 = 6;

@@ -16,7 +16,8 @@ pub const SERIAL_DATA: u8 = 2;
 /// Read: whether a byte was received, and whether one may be sent.
 pub const SERIAL_STATUS: u8 = 3;
 
-/// The data of the SPI bus, which has no device: it reads 255 (this project's own choice).
+/// Read: what the disk on the SPI bus answered last, or 255 before its first answer. Its answers are inputs (this project's own
+/// choice).
 pub const SPI_DATA: u8 = 4;
 
 /// The status of the SPI bus, which is always ready: it reads 1 (this project's own choice).

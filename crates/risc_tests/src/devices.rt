@@ -32,9 +32,19 @@ const INPUTS: [(u8, u32, bool); 13] = [
     (6, 0, false),
 ];
 
-/// Reports whether `Input::new` makes an input exactly if `is_input` says that there is one.
-fn is_input_made(kind: u8, value: u32, is_input: bool) -> bool {
-    match Input::new(kind, value) {
+/// The same with a disk.
+const INPUTS_WITH_DISK: [(u8, u32, bool); 6] = [
+    (0, 0, false),
+    (5, 255, true),
+    (5, 256, false),
+    (6, 0, true),
+    (6, 0xFFFF_FFFF, true),
+    (7, 0, false),
+];
+
+/// Reports whether an input was made exactly if `is_input` says that there is one.
+fn is_input_made(made: Result<Input, RangeFault>, kind: u8, value: u32, is_input: bool) -> bool {
+    match made {
         Ok(input) => is_input && input.kind() == kind && input.value() == value,
         Err(fault) => !is_input && fault == RangeFault && fault.number() == 1,
     }
@@ -43,7 +53,13 @@ fn is_input_made(kind: u8, value: u32, is_input: bool) -> bool {
 /// Returns the kind and the value of the first row that fails, if there is one.
 fn input_made_wrong() -> Option<(u8, u32)> {
     for (kind, value, is_input) in &INPUTS {
-        if !is_input_made(*kind, *value, *is_input) {
+        if !is_input_made(Input::new(*kind, *value), *kind, *value, *is_input) {
+            return Some((*kind, *value));
+        }
+    }
+    for (kind, value, is_input) in &INPUTS_WITH_DISK {
+        let made = Input::new_with_disk(*kind, *value);
+        if !is_input_made(made, *kind, *value, *is_input) {
             return Some((*kind, *value));
         }
     }
@@ -102,6 +118,19 @@ fn keeps_sixteen_keys_of_seventeen(rt: HostRuntime) {
     assert_eq!(rt; devices.keys(), &expected[..]);
 }
 
+#[test]
+fn reads_what_the_disk_answered(rt: HostRuntime) {
+    let mut devices = idle(&rt, 0);
+    assert!(rt; devices.disk() == 255, "before its first answer");
+    let answer = Input::new_with_disk(6, 0x1234_5678).expect(&rt, "the disk answers any word");
+    devices.take(answer);
+    assert!(rt; devices.write(4, 0x40).is_none() && devices.write(5, 5).is_none());
+    let rows = [(4, 0x1234_5678), (5, 1), (4, 0x1234_5678)];
+    check_words(&rt, word_read_wrong(&mut devices, &rows));
+    let other = devices.copy().with_disk(9);
+    assert!(rt; devices.disk() == 0x1234_5678 && other.disk() == 9, "after");
+}
+
 /// Device words to read in turn, each with the expected value.
 const READ_WORDS: [(u8, u32); 16] = [
     (0, 7),
@@ -132,10 +161,12 @@ fn reads_each_word(rt: HostRuntime) {
 }
 
 /// Device words and values to write in turn, each with the byte sent and the LEDs after it.
-const WRITES: [(u8, u32, Option<u8>, u8); 5] = [
+const WRITES: [(u8, u32, Option<u8>, u8); 7] = [
     (0, 0xFFFF_FFFF, None, 0),
     (1, 0x0000_01A5, None, 0xA5),
     (2, 0x0000_0141, Some(0x41), 0xA5),
+    (4, 0x0000_0040, None, 0xA5),
+    (5, 0x0000_0005, None, 0xA5),
     (6, 0x0712_3045, None, 0xA5),
     (15, 1, None, 0xA5),
 ];
