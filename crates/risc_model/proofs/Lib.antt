@@ -4,6 +4,7 @@ pub mod RunLemmas
 pub mod CountLemmas
 pub mod LawLemmas
 pub mod IdleLoopLemmas
+pub mod DiskLemmas
 pub mod VisitLemmas
 pub mod IdleVisitLemmas
 pub mod Examples

@@ -3,6 +3,7 @@ pub mod MachineState
 pub mod Lane
 pub mod Exec
 pub mod InputOrder
+pub mod DiskInputs
 pub mod Replay
 pub mod OneRun
 pub mod IdleLoops

@@ -1,5 +1,5 @@
 //! The laws of this crate's definitions. Each is the contract of a function that does nothing.
-ghost use Rattle.risc_model.specs.Laws.{RunLaw, StoppedLaw, StopLaw, IdleLoopLaw, IdleVisitLaw, LaneLaw, LastCountLaw, VisitLaw, CallsLaw, TurnsLaw, StackLaw, InclusiveLaw};
+ghost use Rattle.risc_model.specs.Laws.{DiskLaw, RunLaw, StoppedLaw, StopLaw, IdleLoopLaw, IdleVisitLaw, LaneLaw, LastCountLaw, VisitLaw, CallsLaw, TurnsLaw, StackLaw, InclusiveLaw};
 
 /// States that a run continues a run, and so do the bytes that it sends.
 pub const fn run_law()
@@ -29,6 +29,11 @@ pub const fn visit_law()
 /// States that the iterations of an idle loop count the same at each word.
 pub const fn idle_visit_law()
     ensures { IdleVisitLaw }
+{}
+
+/// States that inputs of the disk alone change its answer.
+pub const fn disk_law()
+    ensures { DiskLaw }
 {}
 
 /// States the value of the greatest count of an input.

@@ -17,7 +17,7 @@ pub use cpu::Cpu;
 pub use event::Event;
 pub use inputs::{Inputs, MAX_COUNT, Unordered, first_from, quiet_until};
 pub use laws::{
-    calls_law, idle_loop_law, idle_visit_law, inclusive_law, lane_law, last_count_law, run_law,
-    stack_law, stop_law, stopped_law, turns_law, visit_law,
+    calls_law, disk_law, idle_loop_law, idle_visit_law, inclusive_law, lane_law, last_count_law,
+    run_law, stack_law, stop_law, stopped_law, turns_law, visit_law,
 };
 pub use risc_core::Flags;
