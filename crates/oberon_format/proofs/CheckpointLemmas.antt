@@ -13,3 +13,6 @@ fit_at r pool inputs cs k c same lawful lt is =
     let len = length-map cs checkpoint_parts in let inside : k < length cs = omega arith in
     let fit : IsFit pool (get_or (map checkpoint_parts cs) k no_checkpoint) = lawful.fit k (omega arith) in
     subst (λ (p : List (List ℕ)). IsFit p (checkpoint_parts c)) pools (subst (IsFit pool) (checkpoint_at-is cs k c inside is) fit)
+
+pub checkpoint_here : (cs : List Checkpoint) (k : ℕ) (d : Checkpoint) → k < length cs → get_or (map checkpoint_parts cs) k no_checkpoint ≡ checkpoint_parts (get_or cs k d)
+checkpoint_here cs k d lt = get_or-map checkpoint_parts cs k d no_checkpoint lt

@@ -23,12 +23,16 @@ pub use Rattle.risc_core.specs.Flags.{flags_number, flags_of}
 pub use Rattle.risc_core.specs.declared.branch.TheConstants.{COUNTER_END}
 pub use Rattle.risc_core.specs.declared.flags.Flags.{Flags}
 pub use Rattle.risc_devices.proofs.DeviceLemmas.{same_devices}
-pub use Rattle.risc_devices.proofs.InputLemmas.{input_of, kind_fits, kind_of-input_of, mouse_word_fits, same_input, value_fits, value_of-input_of}
+pub use Rattle.risc_devices.proofs.InputLemmas.{input_of, input_with_disk, input_without_disk, kind_fits, kind_of-input_of, mouse_word_fits, same_input, value_fits, value_of-input_of}
 unfoldable pub use Rattle.risc_devices.specs.DeviceState.{is_phase}
 pub use Rattle.risc_devices.specs.DeviceState.{DeviceState, IsDeviceState, IsPhase, serial_number}
 pub use Rattle.risc_devices.specs.Input.{kind_of, value_of}
+pub use Rattle.risc_devices.specs.InputKind.{IsInput}
 unfoldable pub use Rattle.risc_devices.specs.InputKind.{is_input, is_mouse}
 pub use Rattle.risc_devices.specs.declared.input.Input.{Input}
+pub use Rattle.risc_devices.specs.declared.disk.TheConstants.{UNANSWERED}
+pub use Rattle.risc_devices.specs.declared.kinds.TheConstants.{DISK}
+pub use Rattle.risc_model.specs.DiskInputs.{IsOfDisk}
 pub use Rattle.risc_model.specs.InputOrder.{AreOrdered, count_before as before_count}
 pub use Rattle.risc_model.specs.MachineState.{CpuState}
 pub use Rattle.risc_model.specs.declared.event.Event.{Event}
@@ -48,9 +52,9 @@ unfoldable pub use Rattle.oberon_format.specs.FirstFault.{each, first_broken, Ru
 pub use Rattle.oberon_format.specs.Formed.{AreFormed, AreWritable, IsFormed, IsWritable}
 unfoldable pub use Rattle.oberon_format.specs.Layout.{change_count, change_offset, checkpoint_len, checkpoints, event_offset, event_start, events, word_since_2, long_at, output_offset, page_id_offset, page_offset, pages, start, version, word_at}
 pub use Rattle.oberon_format.specs.Line.{IsNamedFault}
-unfoldable pub use Rattle.oberon_format.specs.PartFields.{changes_in, checkpoint_fields, event_fields, fault_of_parts, fields_in, no_event, start_in}
+unfoldable pub use Rattle.oberon_format.specs.PartFields.{answer_rules, changes_in, checkpoint_fields, event_fields, fault_of_parts, fields_in, no_event, start_in}
 pub use Rattle.oberon_format.specs.Ranges.{are_keys, in_ranges, is_change, is_checkpoint, is_count, is_event, is_output, is_version}
-pub use Rattle.oberon_format.specs.Recording.{IsFit, IsLawful, RecordingParts, checkpoint_at, output_of, parts_of, table_before}
+pub use Rattle.oberon_format.specs.Recording.{HasNoAnswers, IsFit, IsLawful, IsUnanswered, RecordingParts, checkpoint_at, output_of, parts_of, table_before}
 unfoldable pub use Rattle.oberon_format.specs.Rules.{change_rules, changed_rules, checkpoint_rules, count_before, end_rules, event_floor, event_rules, field_rules, header_rules, limit_rules, named_len, offset_of_event, page_id_rules, slot_floor, prior_page_id, file_len, whole_rules}
 pub use Rattle.oberon_format.specs.Text.{AreBytes, HasStillTimer, Text, IsEncoding}
 unfoldable pub use Rattle.oberon_format.specs.ByteFields.{change_at, change_of, checkpoint_of, event_of, fields_of, first_fault_of, page_id_before, page_id_of}

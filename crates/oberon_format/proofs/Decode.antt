@@ -1,5 +1,5 @@
 -- What the reader makes of a file without a fault is the recording that the file encodes.
-use Rattle.oberon_format.proofs.Common.{[], add-zero, All, All-drop, All-from_recursion, All-take, ap, AreBytes, AreFormed, AreOrdered, ArePages, AreWritable, arith, H_AT, before_count, between_none, cases_lt, Change, change_bytes, change_count, CHANGE_COUNT_AT, CHANGE_LEN, change_of, change_offset, changes, CHANGES_AT, changes_in, checkpoint_at, checkpoint_bytes, checkpoint_of, checkpoint_len, CheckpointParts, checkpoints, CHECKPOINTS_AT, checkpoints_at, rate_and_phase, common_bytes, count_before, PC_AT, decoded, drop, EachAt, Event, event_bytes, event_floor, event_offset, event_rules, events, EVENTS_AT, field_words, fields_of, fill_by_all, first_fault_of, FIRST_VERSION, FLAGS_AT, flat_map, get_or, get_or-map, get_or-map-range_with_len, get_or_default, get_or_past, HasPageIds, header_bytes, if◌then◌else◌, inl, inr, IsEventAt, IsFormed, IsLawful, IsPage, HasStillTimer, IsWritable, key_bytes, KEYS_AT, KIND_AT, kind_of, word_since_2, tail_words, leb-true, LEDS_AT, length, length-append, length-between, length-map-range_with_len, List, little_from-lt, long_at, long_bytes, map-range_with_len_more, MAX_COUNT, Meets, MOUSE_AT, no_change, no_checkpoint, PAGE_ID_AT, number_back, page_id_before, output_of, output_offset, page_at, page_id_of, page_id_offset, page_offset, pages, PAGES_AT, pages_at, slot_floor, PAGE_SLOTS, prior_page_id, RATE_AT, RecordingParts, refl, REGISTERS_AT, SENT_AT, SERIAL_AT, slice_index, slice_range, start, start_in, STOP_AT, subst, suc, SWITCHES_AT, sym, TABLE_AT, table_at, table_before, tail_bytes, take, Text, TIMER_AT, value_of, VERSION, version, WAITING_AT, word_at, words_bytes, words_from, zero, ℕ, ◌*◌, ◌++◌, ◌+◌, ◌-◌, ◌<◌, ◌==◌, ◌^◌, ◌∙◌, ◌∷◌, ◌≡◌, ◌≤◌}
+use Rattle.oberon_format.proofs.Common.{add-zero, All, All-drop, All-from_recursion, All-take, ap, AreBytes, AreFormed, AreOrdered, ArePages, AreWritable, arith, before_count, between_none, cases_lt, Change, change_bytes, change_count, CHANGE_COUNT_AT, CHANGE_LEN, change_of, change_offset, changes, CHANGES_AT, changes_in, checkpoint_at, checkpoint_bytes, checkpoint_len, checkpoint_of, CheckpointParts, checkpoints, checkpoints_at, CHECKPOINTS_AT, common_bytes, count_before, decoded, drop, EachAt, Event, event_bytes, event_floor, event_offset, event_rules, events, EVENTS_AT, field_words, fields_of, fill_by_all, first_fault_of, FIRST_VERSION, FLAGS_AT, flat_map, get_or, get_or-map, get_or-map-range_with_len, get_or_default, get_or_past, H_AT, HasPageIds, HasStillTimer, header_bytes, if◌then◌else◌, inl, inr, IsEventAt, IsFormed, IsLawful, IsPage, IsUnanswered, IsWritable, key_bytes, KEYS_AT, KIND_AT, kind_of, leb-true, LEDS_AT, length, length-append, length-between, length-map-range_with_len, List, little_from-lt, long_at, long_bytes, map-range_with_len_more, MAX_COUNT, Meets, MOUSE_AT, no_change, no_checkpoint, number_back, output_of, output_offset, page_at, PAGE_ID_AT, page_id_before, page_id_of, page_id_offset, page_offset, PAGE_SLOTS, pages, PAGES_AT, pages_at, PC_AT, prior_page_id, rate_and_phase, RATE_AT, RecordingParts, refl, REGISTERS_AT, SENT_AT, SERIAL_AT, slice_index, slice_range, slot_floor, start, start_in, STOP_AT, subst, suc, SWITCHES_AT, sym, TABLE_AT, table_at, table_before, tail_bytes, tail_words, take, Text, TIMER_AT, value_of, version, VERSION, WAITING_AT, word_at, word_since_2, words_bytes, words_from, zero, [], ℕ, ◌*◌, ◌++◌, ◌+◌, ◌-◌, ◌<◌, ◌==◌, ◌^◌, ◌∙◌, ◌∷◌, ◌≡◌, ◌≤◌}
 use Rattle.risc_model.specs.InputOrder.{count_at}
 use Rattle.oberon_format.proofs.ChangeLemmas.{AreLawful, after-bounded, after-same, change_in, lawful-are}
 use Rattle.oberon_format.proofs.PartLemmas.{member, table_next}
@@ -134,6 +134,7 @@ module _ (bytes : List ℕ) (are_bytes : AreBytes bytes) (meets : Meets bytes) w
         keys = omega (arith, keys_len, few.waiting);
         codes = All-take (λ code. code < 2 ^ 8) (o + KEYS_AT + word_at bytes (o + WAITING_AT) - (o + KEYS_AT)) (drop (o + KEYS_AT) bytes)
             (All-drop (λ code. code < 2 ^ 8) (o + KEYS_AT) bytes are_bytes);
+        disk = omega arith;
       };
       table = record {
         count = length-table_at bytes k;
@@ -150,6 +151,7 @@ module _ (bytes : List ℕ) (are_bytes : AreBytes bytes) (meets : Meets bytes) w
       counter = word_fits bytes (o + PC_AT) are_bytes;
       stop = word_fits bytes (o + STOP_AT) are_bytes;
       sent = omega (arith, sent_len, word_fits bytes (o + SENT_AT) are_bytes);
+      unanswered = refl;
     }
 
     -- the fields that begin it are in the file
@@ -356,5 +358,6 @@ module _ (bytes : List ℕ) (are_bytes : AreBytes bytes) (meets : Meets bytes) w
         let all_unclocked : v ≡ FIRST_VERSION → All HasStillTimer r.checkpoints = λ first k d lt.
         subst HasStillTimer (sym (checkpoint_is K k d (inside k lt))) (still k (inside k lt) first) in
         let faultless = sym (encoding_agrees v r known all_unclocked writes) ∙ ap first_fault_of (sym is) ∙ meets.faultless in
-        let lawful = faultless_lawful v r known all_pages (events_ordered bytes inputs meets count each_event) all_formed faultless in
+        let unanswered : All IsUnanswered r.checkpoints = λ k d lt. subst IsUnanswered (sym (checkpoint_is K k d (inside k lt))) refl in
+        let lawful = faultless_lawful v r known all_pages (events_ordered bytes inputs meets count each_event) all_formed unanswered faultless in
         (lawful, record { version = v; is = record { lawful = lawful; known = known; still = all_unclocked; is = is } })

@@ -201,6 +201,7 @@ writable r p = record {
         counter = omega (arith, fit.cpu.counter);
         stop = omega (arith, fit.cpu.stops);
         sent = omega (arith, sent_le r.checkpoints i no_checkpoint h, p.output);
+        unanswered = p.unanswered.checkpoints i no_checkpoint h;
       } in
       subst IsWritable (get_or_default r.checkpoints i no_checkpoint d h) here;
 }

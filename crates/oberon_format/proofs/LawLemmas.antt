@@ -1,5 +1,5 @@
 -- The laws of recordings and their files. A file without a fault is that of a recording.
-use Rattle.oberon_format.proofs.Common.{[], All-append, All-cons, All-nil, All-replicate, ap, AreBytes, AreFormed, AreWritable, arith, byte_at, bytes_low_first, change_bytes, changes, checkpoint_bytes, CheckpointParts, checkpoints, checkpoints_at, checkpoints_bytes, common_bytes, EachAt, encoding, Event, event_bytes, event_offset, events, Fault, field_words, first_fault_of, flat_map, get_or, header_bytes, input_of, IsEventAt, IsFormed, KIND_AT, kind_of, kind_of-input_of, tail_words, length, length-append, List, long_at, long_bytes, MatchOption, Meets, no_checkpoint, None, Option, pages, pages_at, RecordingParts, refl, slice_index_or, Some, suc, sym, table_before, tail_bytes, Text, VALUE_AT, value_of, value_of-input_of, VERSION, word_at, word_bytes, words_bytes, zero, ℕ, ◌++◌, ◌+◌, ◌-◌, ◌<◌, ◌^◌, ◌∙◌, ◌∷◌, ◌≡◌, ◌≤◌}
+use Rattle.oberon_format.proofs.Common.{All-append, All-cons, All-nil, All-replicate, ap, AreBytes, AreFormed, AreWritable, arith, byte_at, bytes_low_first, change_bytes, changes, checkpoint_bytes, CheckpointParts, checkpoints, checkpoints_at, checkpoints_bytes, common_bytes, EachAt, encoding, Event, event_bytes, event_offset, events, Fault, field_words, first_fault_of, flat_map, get_or, header_bytes, input_of, input_with_disk, IsEventAt, IsFormed, KIND_AT, kind_of, kind_of-input_of, length, length-append, List, long_at, long_bytes, MatchOption, Meets, no_checkpoint, None, Option, pages, pages_at, RecordingParts, refl, slice_index_or, Some, suc, sym, table_before, tail_bytes, tail_words, Text, VALUE_AT, value_of, value_of-input_of, VERSION, word_at, word_bytes, words_bytes, zero, [], ℕ, ◌++◌, ◌+◌, ◌-◌, ◌<◌, ◌^◌, ◌∙◌, ◌∷◌, ◌≡◌, ◌≤◌}
 use Rattle.oberon_format.proofs.Agree.{encoding_agrees}
 use Rattle.oberon_format.proofs.Decode.{decoded_is, long_fits}
 use Rattle.oberon_format.proofs.Bytes.{each_push}
@@ -17,7 +17,7 @@ event_made : (bytes : List ℕ) (i : ℕ) → AreBytes bytes → Meets bytes →
 event_made bytes i are_bytes meets lt =
     let offset = event_offset bytes i in let kind = word_at bytes (offset + KIND_AT) in
     let value = word_at bytes (offset + VALUE_AT) in
-    let lawful = event_input bytes i meets lt in (
+    let lawful = input_with_disk kind value (event_input bytes i meets lt) in (
       record { count = long_at bytes offset; input = input_of kind value lawful; range = long_fits bytes offset are_bytes },
       record { count = refl; kind = sym (kind_of-input_of kind value lawful); value = sym (value_of-input_of kind value lawful) },
     )

@@ -1,10 +1,10 @@
 -- Parts are lawful if and only if the file that encodes them has no fault, in either version.
-use Rattle.oberon_format.proofs.Common.{[], add-one, ap, are_keys, AreFormed, AreOrdered, ArePages, arith, before_count, Bool, changes, CHANGES_AT, changes_in, checkpoint_at, checkpoint_fields, checkpoint_rules, CheckpointParts, count_before, COUNTER_END, CpuState, DeviceState, drop_at, each, eq-eqb, eqb, Event, event_fields, event_floor, event_rules, Fault, fault_of_parts, Fields, fields_in, first_broken, FLAGS_END, flags_number, get_or, get_or_default, HEADER_LEN, header_rules, IfNone, if◌then◌else◌, in_ranges, inl, inr, is_change, is_checkpoint, is_count, is_input, is_output, is_version, IsDeviceState, IsFormed, IsLawful, LAST_AT, le-leb, length, limit_rules, List, list_all, lt-ltb, MAGIC, MAGIC_AT, map, MAX_CHECKPOINTS, MAX_COUNT, MAX_EVENTS, MAX_KEYS, MAX_PAGES, MAX_STOP, named_len, nat_le, nat_lt, nat_tests, nil_from_length, no_checkpoint, no_event, None, number_below, Option, option_or, output_of, slot_floor, PAGE_SLOTS, prior_page_id, RecordingParts, refl, replicate, Rule, sent_below, SERIAL_END, serial_number, slice_index, Some, start_in, subst, suc, sym, table_before, total, true, VERSION, VERSION_AT, zero, zero_number, ℕ, ◌&&◌, ◌++◌, ◌+◌, ◌-◌, ◌<◌, ◌==◌, ◌∙◌, ◌∷◌, ◌≡◌, ◌≤◌}
+use Rattle.oberon_format.proofs.Common.{add-one, All, answer_rules, ap, are_keys, AreFormed, AreOrdered, ArePages, arith, before_count, Bool, changes, CHANGES_AT, changes_in, checkpoint_at, checkpoint_fields, checkpoint_rules, CheckpointParts, count_before, COUNTER_END, CpuState, DeviceState, DISK, drop_at, each, eq-eqb, eqb, Event, event_fields, event_floor, event_rules, false, Fault, fault_of_parts, Fields, fields_in, first_broken, FLAGS_END, flags_number, get_or, get_or_default, HasNoAnswers, HEADER_LEN, header_rules, IfNone, if◌then◌else◌, in_ranges, inl, input_without_disk, inr, is_change, is_checkpoint, is_count, is_input, is_output, is_version, IsDeviceState, IsFormed, IsLawful, IsOfDisk, IsUnanswered, LAST_AT, le-leb, length, limit_rules, List, list_all, lt-ltb, MAGIC, MAGIC_AT, map, MAX_CHECKPOINTS, MAX_COUNT, MAX_EVENTS, MAX_KEYS, MAX_PAGES, MAX_STOP, named_len, nat_le, nat_lt, nat_tests, ne_eqb, nil_from_length, no_checkpoint, no_event, None, number_below, offset_of_event, Option, option_or, output_of, PAGE_SLOTS, prior_page_id, RecordingParts, refl, replicate, Rule, sent_below, SERIAL_END, serial_number, slice_index, slot_floor, Some, start_in, subst, suc, sym, table_before, total, true, UNANSWERED, VERSION, VERSION_AT, zero, zero_number, [], ℕ, ◌&&◌, ◌++◌, ◌+◌, ◌-◌, ◌<◌, ◌==◌, ◌∙◌, ◌∷◌, ◌≡◌, ◌≤◌}
 use Rattle.oberon_format.specs.Recording.{count_at}
 use Rattle.oberon_format.specs.Rules.{rules}
 use Rattle.oberon_format.proofs.ChangeLemmas.{change_in, after-bounded, changes-lawful, changes-make, changes-new}
 use Rattle.oberon_format.proofs.PartLemmas.{member, event_here, sent_all, prior_encoded, table_next, total_rises, changes_in_few, start_in_first, start_in_rises, changed_room, ends_met, before_next}
-use Rattle.oberon_format.proofs.RuleLemmas.{fields_hold, AreMet, met_parts, parts_met, each_holds, each_all, version_cases, ChangedMet, whole_met, whole_meets, changed_met, changed_meets, hold_none, first_append, rules_first, met-append, in_order}
+use Rattle.oberon_format.proofs.RuleLemmas.{fields_hold, AreMet, met_left, met_right, met_parts, parts_met, each_holds, each_all, version_cases, ChangedMet, whole_met, whole_meets, changed_met, changed_meets, hold_none, first_append, rules_first, met-append, in_order}
 use Rattle.oberon_format.proofs.Walk.{change_named, change_same, number_tested}
 use Rattle.oberon_format.specs.declared.fault.Fault.TheVariants as fault
 
@@ -113,10 +113,37 @@ before_named v r (suc k) p known met le lt =
       | inr later ↦ changed_numbers v r k p later (changed_met f k later here) lt (before_named v r k p known met (omega arith) lt)
     ])
 
-met_lawful : (v : ℕ) (r : RecordingParts) → is_version v ≡ true → ArePages r.pool → AreOrdered r.inputs → AreFormed r.checkpoints
+-- no input of a disk is an event of a file
+disk_input : (value : ℕ) → is_input DISK value ≡ false
+unfolding is_input
+disk_input value = refl
+
+and_false : (a b : Bool) → b ≡ false → (a && b) ≡ false
+and_false true b h = h
+and_false false b h = refl
+
+pub event_unmet : (v : ℕ) (r : RecordingParts) (i : ℕ) (d : Event) → i < length r.inputs → IsOfDisk (get_or r.inputs i d)
+    → first_broken (event_rules (fields_in v r) i) ≡ Some (fault.Event (offset_of_event (fields_in v r) i))
+event_unmet v r i d lt is =
+    let f = fields_in v r in let e = get_or r.inputs i d in
+    let none : is_input (f.event i).kind (f.event i).value ≡ false =
+    ap (λ x. is_input x.kind x.value) (event_here v r i d lt) ∙ ap (λ (kind : ℕ). is_input kind (event_fields e).value) is ∙ disk_input (event_fields e).value in
+    let wrong = and_false (nat_le (event_floor f i) (f.event i).count && nat_le (f.event i).count MAX_COUNT) _ none in
+    rw wrong refl
+
+no_answers : (v : ℕ) (r : RecordingParts) → All IsUnanswered r.checkpoints → first_broken (each (length r.inputs) (event_rules (fields_in v r))) ≡ None → HasNoAnswers r
+no_answers v r unanswered met = record {
+  inputs = λ i d lt is.
+      let here = each_holds (event_rules (fields_in v r)) (length r.inputs) i lt met in
+      let wrong = event_unmet v r i d lt is in
+      absurd cc;
+  checkpoints = unanswered;
+}
+
+met_lawful : (v : ℕ) (r : RecordingParts) → is_version v ≡ true → ArePages r.pool → AreOrdered r.inputs → AreFormed r.checkpoints → All IsUnanswered r.checkpoints
     → AreMet (fields_in v r) → IsLawful r
 unfolding total
-met_lawful v r known pages ordered formed met =
+met_lawful v r known pages ordered formed unanswered met =
     let f = fields_in v r in let n = length r.checkpoints in let within = header_within f met.header in let some = within.some in
     let each_met = λ (k : ℕ) (lt : k < n). fields_hold f k (each_holds (checkpoint_rules f) n k lt met.checkpoints) in
     let zero_met = each_met 0 (omega arith) in let last = n - 1 in let bound = (each_met last (omega arith)).within in
@@ -147,6 +174,7 @@ met_lawful v r known pages ordered formed met =
                 subst (λ (x : ℕ). x ≤ length r.pool) (get_or_default (checkpoint_at r k).table j 0 d less) named;
             bytes = own.bytes;
           };
+      unanswered = no_answers v r unanswered met.events;
     }
 
 -- the counts of events, as fields and as inputs
@@ -155,19 +183,21 @@ event_count [] i = refl
 event_count (e ∷ es) zero = refl
 event_count (e ∷ es) (suc i) = event_count es i
 
-event_met : (v : ℕ) (r : RecordingParts) (i : ℕ) → AreOrdered r.inputs → i < length r.inputs → first_broken (event_rules (fields_in v r) i) ≡ None
-event_met v r i ordered lt =
+pub event_met : (v : ℕ) (r : RecordingParts) (i : ℕ) (d : Event) → AreOrdered r.inputs → i < length r.inputs → ¬ (IsOfDisk (get_or r.inputs i d))
+    → first_broken (event_rules (fields_in v r) i) ≡ None
+event_met v r i d ordered lt other =
     let f = fields_in v r in let right = ordered i lt in let count = event_count r.inputs i in
     let floor : event_floor f i ≡ before_count r.inputs i = ap (λ (n : ℕ). if i == 0 then 0 else n) (event_count r.inputs (i - 1)) in
-    let d = member r.inputs i lt in let e = get_or r.inputs i d in
-    let input : is_input (f.event i).kind (f.event i).value ≡ true = ap (λ x. is_input x.kind x.value) (event_here v r i d lt) ∙ e.input.lawful in
+    let e = get_or r.inputs i d in
+    let input : is_input (f.event i).kind (f.event i).value ≡ true = ap (λ x. is_input x.kind x.value) (event_here v r i d lt) ∙ input_without_disk _ _ other e.input.lawful in
     let low : nat_le (event_floor f i) (f.event i).count ≡ true = le-leb _ _ (omega (arith, right.0)) in
     let high : nat_le (f.event i).count MAX_COUNT ≡ true = le-leb _ _ (omega (arith, right.1)) in
     hold_none (event_rules f i) (both _ _ (both _ _ low high) input, tt)
 
--- all rules of the events of parts are met
-pub events_met : (v : ℕ) (r : RecordingParts) → AreOrdered r.inputs → first_broken (each (length r.inputs) (event_rules (fields_in v r))) ≡ None
-events_met v r ordered = each_all (event_rules (fields_in v r)) (length r.inputs) (λ i lt. event_met v r i ordered lt)
+-- all rules of the events of parts without answers are met
+events_met : (v : ℕ) (r : RecordingParts) → AreOrdered r.inputs → HasNoAnswers r → first_broken (each (length r.inputs) (event_rules (fields_in v r))) ≡ None
+events_met v r ordered none =
+    each_all (event_rules (fields_in v r)) (length r.inputs) (λ i lt. let d = member r.inputs i lt in event_met v r i d ordered lt (none.inputs i d lt))
 
 count_met : (v : ℕ) (r : RecordingParts) (k : ℕ) → IsLawful r → k < length r.checkpoints → is_count k (count_before (fields_in v r) k) (count_at r k) ≡ true
 count_met v r zero lawful lt = eq-eqb _ _ lawful.begins
@@ -228,7 +258,7 @@ lawful_met v r known formed lawful =
     let some = lawful.some in
     record {
       header = parts_header v r known (record { pages = lawful.pages; events = lawful.events; some = omega arith; few = lawful.few });
-      events = events_met v r lawful.ordered;
+      events = events_met v r lawful.ordered lawful.unanswered;
       checkpoints = each_all (checkpoint_rules (fields_in v r)) (length r.checkpoints) (λ k lt. checkpoint_rules_met v r k known formed lawful lt);
       ends = ends_met v r;
     }
@@ -247,23 +277,61 @@ lawful_formed r lawful = λ k d lt.
     } in
     subst IsFormed (get_or_default r.checkpoints k no_checkpoint d lt) here
 
--- parts are lawful if and only if their file has no fault, in each version
-pub faultless_lawful : (v : ℕ) (r : RecordingParts) → is_version v ≡ true → ArePages r.pool → AreOrdered r.inputs → AreFormed r.checkpoints
+-- parts without answers in their checkpoints are lawful if and only if their file has no fault, in each version
+pub faultless_lawful : (v : ℕ) (r : RecordingParts) → is_version v ≡ true → ArePages r.pool → AreOrdered r.inputs → AreFormed r.checkpoints → All IsUnanswered r.checkpoints
     → first_broken (rules (fields_in v r)) ≡ None → IsLawful r
-faultless_lawful v r known pages ordered formed h = met_lawful v r known pages ordered formed (met_parts (fields_in v r) h)
+faultless_lawful v r known pages ordered formed unanswered h = met_lawful v r known pages ordered formed unanswered (met_parts (fields_in v r) h)
 
 pub lawful_faultless : (v : ℕ) (r : RecordingParts) → is_version v ≡ true → IsLawful r → first_broken (rules (fields_in v r)) ≡ None
 lawful_faultless v r known lawful = parts_met (fields_in v r) (lawful_met v r known (lawful_formed r lawful) lawful)
 
--- the first fault of parts in order is that of their checkpoints, if their counts are within limits
-pub parts_rest : (r : RecordingParts) (n : ℕ) (o : Option Fault) → n ≡ length r.checkpoints → AreOrdered r.inputs
-    → first_broken (header_rules (fields_in VERSION r)) ≡ None → first_broken (each n (checkpoint_rules (fields_in VERSION r))) ≡ o → fault_of_parts r ≡ o
-parts_rest r n o len ordered h e =
-    let f = fields_in VERSION r in let events = events_met VERSION r ordered in
-    let checkpoints = ap (λ (m : ℕ). first_broken (each m (checkpoint_rules f))) (sym len) ∙ e in
-    let ends = ends_met VERSION r in
-    let all : first_broken (rules f) ≡ in_order None None o None = rules_first f ∙ (λ i. in_order (h i) (events i) (checkpoints i) (ends i)) in
-    all ∙ or_none o
+rule_equal : (a b : ℕ) (f : Fault) → first_broken ((a == b, f) ∷ []) ≡ None → a ≡ b
+rule_equal a b f h = grind (arith, nat_tests)
+
+-- the rule of a checkpoint's disk
+pub answer_met : (r : RecordingParts) (k : ℕ) → IsUnanswered (checkpoint_at r k) → first_broken (answer_rules r k) ≡ None
+answer_met r k none = hold_none (answer_rules r k) (eq-eqb _ _ none, tt)
+
+pub answer_unmet : (r : RecordingParts) (k : ℕ) → ¬ (IsUnanswered (checkpoint_at r k)) → first_broken (answer_rules r k) ≡ Some (fault.Checkpoint (start_in VERSION r k))
+answer_unmet r k some = rw (ne_eqb _ _ some) refl
+
+pub answers_met : (r : RecordingParts) → All IsUnanswered r.checkpoints → first_broken (each (length r.checkpoints) (answer_rules r)) ≡ None
+answers_met r none = each_all (answer_rules r) (length r.checkpoints) (λ k lt. answer_met r k (none k no_checkpoint lt))
+
+met_answers : (r : RecordingParts) → first_broken (each (length r.checkpoints) (answer_rules r)) ≡ None → All IsUnanswered r.checkpoints
+met_answers r met k d lt =
+    let here = each_holds (answer_rules r) (length r.checkpoints) k lt met in
+    let own : IsUnanswered (checkpoint_at r k) = rule_equal (checkpoint_at r k).devices.disk UNANSWERED (fault.Checkpoint (start_in VERSION r k)) here in
+    subst IsUnanswered (get_or_default r.checkpoints k no_checkpoint d lt) own
+
+-- parts are lawful if and only if they have no fault
+pub parts_lawful : (r : RecordingParts) → ArePages r.pool → AreOrdered r.inputs → AreFormed r.checkpoints → fault_of_parts r ≡ None → IsLawful r
+parts_lawful r pages ordered formed h =
+    let file = rules (fields_in VERSION r) in let answers = each (length r.checkpoints) (answer_rules r) in
+    faultless_lawful VERSION r refl pages ordered formed (met_answers r (met_right file answers h)) (met_left file answers h)
+
+pub lawful_parts : (r : RecordingParts) → IsLawful r → fault_of_parts r ≡ None
+lawful_parts r lawful =
+    met-append (rules (fields_in VERSION r)) _ (lawful_faultless VERSION r refl lawful) ∙ answers_met r lawful.unanswered.checkpoints
+
+-- parts that fit have the fault of their file
+pub parts_of_file : (r : RecordingParts) → All IsUnanswered r.checkpoints → first_broken (rules (fields_in VERSION r)) ≡ fault_of_parts r
+parts_of_file r none =
+    let file = rules (fields_in VERSION r) in
+    sym (first_append file (each (length r.checkpoints) (answer_rules r)) ∙ ap (option_or (first_broken file)) (answers_met r none) ∙ or_none (first_broken file))
+
+-- the first fault of parts is that of their header, or else of their inputs, of their checkpoints, or of an answer
+pub parts_in_order : (r : RecordingParts) (n : ℕ) (h e c a : Option Fault) → n ≡ length r.checkpoints
+    → h ≡ first_broken (header_rules (fields_in VERSION r)) → e ≡ first_broken (each (length r.inputs) (event_rules (fields_in VERSION r)))
+    → c ≡ first_broken (each n (checkpoint_rules (fields_in VERSION r))) → a ≡ first_broken (each n (answer_rules r))
+    → fault_of_parts r ≡ option_or (option_or (option_or h e) c) a
+parts_in_order r n h e c a len header events checkpoints answers =
+    let f = fields_in VERSION r in
+    let at_checkpoints = ap (λ (m : ℕ). first_broken (each m (checkpoint_rules f))) (sym len) ∙ sym checkpoints in
+    let at_answers = ap (λ (m : ℕ). first_broken (each m (answer_rules r))) (sym len) ∙ sym answers in
+    let file : first_broken (rules f) ≡ option_or (option_or h e) c =
+    rules_first f ∙ (λ i. in_order (sym header i) (sym events i) (at_checkpoints i) (ends_met VERSION r i)) ∙ or_none _ in
+    first_append (rules f) _ ∙ (λ i. option_or (file i) (at_answers i))
 
 pub if_none : (o : Option Fault) (P : Type 0) → (o ≡ None → P) → IfNone o P
 if_none None P h = h refl

@@ -1,5 +1,5 @@
 -- No rule is broken with an allocation failure.
-use Rattle.oberon_format.proofs.Common.{[], Bool, changed_rules, checkpoint_rules, each, end_rules, event_rules, false, Fault, fault_of_parts, Fields, fields_in, fields_of, first_broken, first_fault_of, FIRST_VERSION, header_rules, IfSome, if◌then◌else◌, IsNamedFault, List, PAGE_SLOTS, RecordingParts, Rule, true, VERSION, whole_rules, ℕ, ◌++◌, ◌==◌, ◌∷◌}
+use Rattle.oberon_format.proofs.Common.{answer_rules, Bool, changed_rules, checkpoint_rules, each, end_rules, event_rules, false, Fault, fault_of_parts, Fields, fields_in, fields_of, first_broken, first_fault_of, FIRST_VERSION, header_rules, IfSome, if◌then◌else◌, IsNamedFault, length, List, PAGE_SLOTS, RecordingParts, Rule, true, VERSION, whole_rules, [], ℕ, ◌++◌, ◌==◌, ◌∷◌}
 use Rattle.oberon_format.specs.Rules.{rules}
 use Rattle.oberon_format.proofs.RuleLemmas.{each_rule-each, each_rule-append, EachRule}
 
@@ -39,4 +39,6 @@ pub fault_named : (bytes : List ℕ) → IfSome (first_fault_of bytes) IsNamedFa
 fault_named bytes = first_named (rules (fields_of bytes)) (rules_named (fields_of bytes))
 
 pub parts_named : (r : RecordingParts) → IfSome (fault_of_parts r) IsNamedFault
-parts_named r = first_named (rules (fields_in VERSION r)) (rules_named (fields_in VERSION r))
+parts_named r =
+    let file = rules (fields_in VERSION r) in let answers = each (length r.checkpoints) (answer_rules r) in
+    first_named (file ++ answers) (join file answers (rules_named (fields_in VERSION r)) (named_each (length r.checkpoints) (answer_rules r) (λ k. (tt, tt))))

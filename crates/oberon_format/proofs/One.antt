@@ -76,7 +76,8 @@ module _ (v : ℕ) (bytes : List ℕ) (r s : RecordingParts) (known : is_version
       let registers = sym x.registers ∙ y.registers in
       let flags = same_flags c.cpu.flags d.cpu.flags (field 2) in
       let devices = same_devices c.devices d.devices fc.devices fd.devices (field 4) (clock 0 (omega arith)) (clock 1 (omega arith))
-      (field 5) (field 6) (field 7) (field 8) (same_keys c.devices d.devices (field 9) (sym x.keys ∙ y.keys)) in
+      (field 5) (field 6) (field 7) (field 8) (same_keys c.devices d.devices (field 9) (sym x.keys ∙ y.keys))
+      ((fr.checkpoints k no_checkpoint lt).unanswered ∙ sym (fs.checkpoints k no_checkpoint lt').unanswered) in
       let count = fc.table.count in
       let table = same_lists c.table d.table (fc.table.count ∙ sym fd.table.count) (λ p e less.
       get_or_default c.table p e 0 less ∙ sym (numbers_agree v bytes r known fr a still k p lt (omega arith)) ∙ numbers_agree v bytes s known fs b still' k p lt' (omega arith)

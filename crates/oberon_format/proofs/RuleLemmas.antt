@@ -1,5 +1,5 @@
 -- The first broken rule of lists of rules, and what a file has if some of its rules are met.
-use Rattle.oberon_format.proofs.Common.{[], add-one, ap, are_keys, arith, Bool, cases_lt, change_rules, changed_rules, CHANGES_AT, checkpoint_of, checkpoint_rules, CheckpointFields, checkpoints, count_before, COUNTER_END, each, end_rules, eq-eqb, eqb-true, event_offset, event_rules, events, false, Fault, Fields, fields_of, first_broken, first_fault_of, FIRST_VERSION, FLAGS_END, header_rules, if◌then◌else◌, in_ranges, inl, inr, is_change, is_checkpoint, is_count, is_input, is_mouse, is_output, is_phase, is_version, IsSized, KIND_AT, le-leb, leb-true, LEDS_END, List, long_at, ltb-true, MAX_KEYS, MAX_OUTPUT, MAX_STOP, Meets, nat_tests, None, Option, option_or, or_cases, page_id_rules, slot_floor, PAGE_SLOTS, prior_page_id, refl, Rule, SENT_AT, sent_below, SERIAL_END, Some, start, suc, SWITCHES_END, sym, total, true, VALUE_AT, VERSION, whole_rules, word_at, zero, ℕ, ◌&&◌, ◌++◌, ◌+◌, ◌<◌, ◌==◌, ◌∙◌, ◌∷◌, ◌≡◌, ◌≤◌, ◌⊎◌}
+use Rattle.oberon_format.proofs.Common.{[], add-one, ap, are_keys, arith, Bool, cases_lt, change_rules, changed_rules, CHANGES_AT, checkpoint_of, checkpoint_rules, CheckpointFields, checkpoints, count_before, COUNTER_END, each, end_rules, eq-eqb, eqb-true, event_offset, event_rules, events, false, Fault, Fields, fields_of, first_broken, first_fault_of, FIRST_VERSION, FLAGS_END, header_rules, if◌then◌else◌, in_ranges, inl, inr, is_change, is_checkpoint, is_count, input_with_disk, is_input, is_mouse, is_output, is_phase, is_version, IsInput, IsSized, kind_fits, KIND_AT, le-leb, leb-true, LEDS_END, List, long_at, ltb-true, MAX_KEYS, MAX_OUTPUT, MAX_STOP, Meets, nat_tests, None, Option, option_or, or_cases, page_id_rules, slot_floor, PAGE_SLOTS, prior_page_id, refl, Rule, SENT_AT, sent_below, SERIAL_END, Some, start, suc, SWITCHES_END, sym, total, true, VALUE_AT, VERSION, whole_rules, word_at, zero, ℕ, ◌&&◌, ◌++◌, ◌+◌, ◌<◌, ◌==◌, ◌∙◌, ◌∷◌, ◌≡◌, ◌≤◌, ◌⊎◌}
 use Rattle.oberon_format.specs.Rules.{rules}
 
 -- the first fault of two lists is that of the first one, or else that of the second
@@ -182,6 +182,9 @@ and_left false b h = absurd cc
 pub and_right : (a b : Bool) → (a && b) ≡ true → b ≡ true
 and_right true b h = h
 and_right false b h = absurd cc
+
+pub kind_small : (kind value : ℕ) → IsInput kind value → kind < 7
+kind_small kind value lawful = kind_fits kind value (input_with_disk kind value lawful)
 
 pub event_input : (bytes : List ℕ) (i : ℕ) → Meets bytes → i < events bytes → is_input (word_at bytes (event_offset bytes i + KIND_AT)) (word_at bytes (event_offset bytes i + VALUE_AT)) ≡ true
 event_input bytes i meets lt =

@@ -4,7 +4,7 @@ use Rattle.risc_devices.specs.DeviceState.{IsDeviceState}
 use Rattle.risc_pages.specs.Pages.{ArePages}
 use Rattle.risc_pages.specs.Tables.{IsTable}
 use Rattle.oberon_format.specs.CheckpointParts.{CheckpointParts}
-use Rattle.oberon_format.specs.Recording.{RecordingParts}
+use Rattle.oberon_format.specs.Recording.{RecordingParts, IsUnanswered}
 
 -- sixteen registers that hold words, a word in H, devices in their ranges, a table of 1,024 page ids, and bytes of output
 pub record IsFormed (c : CheckpointParts) : Type 0 where
@@ -20,13 +20,14 @@ abbrev pub AreFormed : List CheckpointParts → Type 0
 AreFormed checkpoints = All IsFormed checkpoints
 
 -- its other numbers fit the fields of a file: the count in eight bytes, and the program counter, the stop and the number of bytes
--- sent in four bytes each
+-- sent in four bytes each; and it has no answer of a disk, for which there is no field
 pub record IsWritable (c : CheckpointParts) : Type 0 where
   pub formed : IsFormed c
   pub count : c.count < 2 ^ 64
   pub counter : c.cpu.pc < 2 ^ 32
   pub stop : c.cpu.stop < 2 ^ 32
   pub sent : length c.sent < 2 ^ 32
+  pub unanswered : IsUnanswered c
 
 -- all numbers of a recording's parts fit the fields of a file, whether they are lawful or not: the pages are pages, and the
 -- numbers of pages, inputs and checkpoints fit in four bytes each. The numbers of an input always fit

@@ -1,16 +1,18 @@
 -- The fields of the file that encodes the parts of a recording, lawful or not, and the first fault of such a file.
-use Rattle.std.specs.Prelude.{ℕ, zero, suc, ◌+◌, ◌==◌, if◌then◌else◌, List, map, length, slice_index, slice_index_or, Option}
+use Rattle.std.specs.Prelude.{ℕ, zero, suc, ◌+◌, ◌==◌, if◌then◌else◌, List, [], ◌∷◌, ◌++◌, map, length, slice_index, slice_index_or, Option}
 use Rattle.risc_core.specs.Flags.{flags_number}
 use Rattle.risc_devices.specs.DeviceState.{serial_number}
+use Rattle.risc_devices.specs.declared.disk.TheConstants.{UNANSWERED}
 use Rattle.risc_devices.specs.Input.{kind_of, value_of}
 use Rattle.risc_model.specs.declared.event.Event.{Event}
 use Rattle.oberon_format.specs.Changes.{changes, no_change}
 use Rattle.oberon_format.specs.CheckpointParts.{CheckpointParts, key_bytes}
 use Rattle.oberon_format.specs.declared.fault.Fault.{Fault}
+use Rattle.oberon_format.specs.declared.fault.Fault.TheVariants as fault
 use Rattle.oberon_format.specs.declared.fields.CheckpointFields.{CheckpointFields}
 use Rattle.oberon_format.specs.declared.layout.TheConstants.{MAGIC, FIRST_VERSION, VERSION}
 use Rattle.oberon_format.specs.Fields.{EventFields, Fields}
-use Rattle.oberon_format.specs.FirstFault.{first_broken}
+use Rattle.oberon_format.specs.FirstFault.{Rule, each, first_broken}
 use Rattle.oberon_format.specs.Layout.{event_start, checkpoint_len}
 use Rattle.oberon_format.specs.Recording.{RecordingParts, checkpoint_at, table_before, output_of}
 use Rattle.oberon_format.specs.Rules.{rules}
@@ -67,6 +69,11 @@ fields_in version r = record {
   page_id = λ k. slice_index (checkpoint_at r k).table;
 }
 
--- the first fault of the file of these parts in the current version, if it has one
+-- checkpoint k has no answer of a disk, for which a file of the current version has no field
+abbrev pub answer_rules : RecordingParts → ℕ → List (Rule Fault)
+answer_rules r k = ((checkpoint_at r k).devices.disk == UNANSWERED, fault.Checkpoint (start_in VERSION r k)) ∷ []
+
+-- the first fault of these parts, if they have one: that of their file in the current version, or else that of the first checkpoint
+-- with an answer of a disk. An input that is one breaks the rule of its event
 abbrev pub fault_of_parts : RecordingParts → Option Fault
-fault_of_parts r = first_broken (rules (fields_in VERSION r))
+fault_of_parts r = first_broken (rules (fields_in VERSION r) ++ each (length r.checkpoints) (answer_rules r))

@@ -4,7 +4,9 @@ use Rattle.std.specs.List.{flat_map}
 use Rattle.risc_pages.specs.Pages.{ArePages}
 use Rattle.risc_pages.specs.Tables.{IsNamed, zero_numbers, IsTable}
 use Rattle.risc_devices.specs.DeviceState.{IsDeviceState}
+use Rattle.risc_devices.specs.declared.disk.TheConstants.{UNANSWERED}
 use Rattle.risc_model.specs.declared.event.Event.{Event}
+use Rattle.risc_model.specs.DiskInputs.{IsOfDisk}
 use Rattle.risc_model.specs.InputOrder.{AreOrdered}
 use Rattle.risc_model.specs.MachineState.{IsCpuState}
 use Rattle.risc_model.specs.declared.inputs.TheConstants.{MAX_COUNT}
@@ -48,10 +50,19 @@ pub record IsFit (pool : List (List ℕ)) (c : CheckpointParts) : Type 0 where
   pub named : IsNamed pool c.table
   pub bytes : All (λ byte. byte < 2 ^ 8) c.sent
 
+-- a checkpoint before the disk's first answer
+abbrev pub IsUnanswered : CheckpointParts → Type 0
+IsUnanswered c = c.devices.disk ≡ UNANSWERED
+
+-- a recording of a machine without a disk: no input is an answer of the disk, and no checkpoint has one
+pub record HasNoAnswers (r : RecordingParts) : Type 0 where
+  pub inputs : All (λ e. ¬ (IsOfDisk e)) r.inputs
+  pub checkpoints : All IsUnanswered r.checkpoints
+
 -- a recording within all limits: the numbers of pages, inputs and checkpoints are within theirs, there is at least one
 -- checkpoint, inputs are in the order of their counts, the counts of checkpoints begin at 0 and rise, checkpoint 0 has no output,
--- and the output in all is within its limit. That each input's value is in its kind's range is not asked here: `Input` itself
--- guarantees it, as `IsInput` of `risc_devices` (`specs/InputKind.antt`)
+-- and the output in all is within its limit. It has no answers of a disk. That each input's value is in its kind's range is not
+-- asked here: `Input` itself guarantees it, as `IsInputWithDisk` of `risc_devices` (`specs/InputKind.antt`)
 pub record IsLawful (r : RecordingParts) : Type 0 where
   pub pages : length r.pool ≤ MAX_PAGES
   pub pool : ArePages r.pool
@@ -64,6 +75,7 @@ pub record IsLawful (r : RecordingParts) : Type 0 where
   pub silent : (checkpoint_at r 0).sent ≡ []
   pub output : length (output_of r.checkpoints) ≤ MAX_OUTPUT
   pub fit : (k : ℕ) → k < length r.checkpoints → IsFit r.pool (checkpoint_at r k)
+  pub unanswered : HasNoAnswers r
 
 -- the parts of a recording, lawful or not
 abbrev pub parts_of : List (List ℕ) → List Event → List Checkpoint → RecordingParts

@@ -96,7 +96,7 @@ fn pool_of(alloc: Global, bytes: &[u8]) -> Result<Pool, AllocError>
     Ok(pool)
 }
 
-#[tactic(auto, using(risc_devices::proofs::InputLemmas::kind_fits))]
+#[tactic(auto, using(crate::proofs::RuleLemmas::kind_small))]
 fn event_of(bytes: &[u8], offset: usize) -> Event
     requires room { offset + EVENT_LEN ≤ length bytes.now }
     requires input { IsInput (word_at bytes.now (offset + KIND_AT)) (word_at bytes.now (offset + VALUE_AT)) }

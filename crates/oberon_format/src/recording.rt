@@ -24,7 +24,8 @@ use std::marker::Model;
 /// | timer of a checkpoint | its phase below its rate, or 0 at rate 0 |
 /// | table of a checkpoint | page ids of the pool |
 ///
-/// All limits are this project's own choice. In contracts a recording is the record of its parts.
+/// It is one of a machine without a disk: no input and no checkpoint has an answer of a disk. All limits are this project's own
+/// choice. In contracts a recording is the record of its parts.
 #[derive(Drop)]
 pub struct Recording {
     pool: Pool,
@@ -51,7 +52,9 @@ impl Recording {
     /// Makes the recording of these parts.
     ///
     /// Refuses exactly if the file that encodes them has a first fault, and returns that fault: a number too large for its field
-    /// breaks that field's rule. The parts are then dropped. Never returns `Memory`.
+    /// breaks that field's rule. A file has no answers of a disk: an input that is one breaks the rule of its event. If the file has
+    /// no fault, but a checkpoint has an answer, returns the fault of the first such checkpoint, at its start. The parts are then
+    /// dropped. Never returns `Memory`.
     pub fn from_parts(
         pool: Pool,
         inputs: Inputs,

@@ -95,6 +95,7 @@ fn are_same_devices(other: &Devices, one: &Devices) -> bool {
         && other.mouse() == one.mouse()
         && other.serial() == one.serial()
         && other.keys() == one.keys()
+        && other.disk() == one.disk()
 }
 
 /// Reports whether two checkpoints agree, and the first has a timer of rate 0.

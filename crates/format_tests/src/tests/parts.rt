@@ -282,3 +282,43 @@ fn is_a_checkpoint_too_many(alloc: Global) -> bool {
 fn refuses_a_checkpoint_too_many(rt: HostRuntime) {
     assert!(rt; is_a_checkpoint_too_many(rt.alloc()));
 }
+
+/// Returns the fault of a checkpoint after two inputs, an answer of a disk the second.
+fn fault_of_an_answer(alloc: Global) -> Option<Fault> {
+    let first = Input::new(1, 0).ok()?;
+    let second = Input::new_with_disk(6, 0xFFFF_FFFF).ok()?;
+    let mut events = events_of(alloc, first, 1).ok()?;
+    let answer = Event {
+        count: 0,
+        input: second,
+    };
+    events.push(answer).ok()?;
+    let inputs = Inputs::new(events).ok()?;
+    let checkpoints = checkpoints_of(alloc, &[ZERO])?;
+    Recording::from_parts(Pool::new(alloc), inputs, checkpoints).err()
+}
+
+/// Returns the fault of two checkpoints, the last with this answer of a disk.
+fn fault_with_disk(alloc: Global, disk: u32) -> Option<Fault> {
+    let devices = Devices::with_timer(0, 0, 0).ok()?.with_disk(disk);
+    let mut checkpoints = checkpoints_of(alloc, &[ZERO, TEN])?;
+    match checkpoints.last_mut() {
+        Some(last) => last.devices = devices,
+        None => return Some(Fault::Memory),
+    }
+    fault_of_parts(alloc, Pool::new(alloc), checkpoints)
+}
+
+#[test]
+fn refuses_answers_of_a_disk(rt: HostRuntime) {
+    let alloc = rt.alloc();
+    // the header, and the first event
+    let event = Some(Fault::Event(24 + 16));
+    assert!(rt; fault_of_an_answer(alloc) == event, "as an input");
+    assert!(rt;
+        fault_with_disk(alloc, 255).is_none(),
+        "before its first answer"
+    );
+    let checkpoint = Some(Fault::Checkpoint(168));
+    assert!(rt; fault_with_disk(alloc, 0) == checkpoint, "in a checkpoint");
+}

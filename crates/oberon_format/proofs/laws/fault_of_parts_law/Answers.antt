@@ -1,6 +1,7 @@
-use Rattle.oberon_format.proofs.Common.{arith, refl, VERSION}
+use Rattle.oberon_format.proofs.Common.{arith, refl, VERSION, ◌∙◌}
 use Rattle.oberon_format.proofs.Agree.{encoding_agrees}
+use Rattle.oberon_format.proofs.LawfulLemmas.{parts_of_file}
 use Rattle.oberon_format.proofs.laws.fault_of_parts_law.Goals as goal
 
 pub returns : goal.returns
-returns c = λ r fits. encoding_agrees VERSION r refl (λ first. absurd (omega arith)) fits
+returns c = λ r fits. encoding_agrees VERSION r refl (λ first. absurd (omega arith)) fits ∙ parts_of_file r (λ k d lt. (fits.checkpoints k d lt).unanswered)

@@ -1,12 +1,12 @@
-use Rattle.oberon_format.proofs.Common.{Fault, fault_of_parts, IfSome, IsNamedFault, Option, parts_of, refl, subst, sym, VERSION}
-use Rattle.oberon_format.proofs.LawfulLemmas.{lawful_faultless}
+use Rattle.oberon_format.proofs.Common.{Fault, fault_of_parts, IfSome, IsNamedFault, Option, parts_of, subst, sym}
+use Rattle.oberon_format.proofs.LawfulLemmas.{lawful_parts}
 use Rattle.oberon_format.proofs.Named.{parts_named}
 use Rattle.oberon_format.proofs.recording.Recording.from_parts.Goals as goal
 
 pub returns-in-Some-clause-lawful : goal.returns-in-Some-clause-lawful
 returns-in-Some-clause-lawful c =
     let found = rw c.deref.ensures.value at c.in-Some.ensures.fault in
-    (λ h. absurd cc, λ lawful. let none = lawful_faultless VERSION _ refl lawful in absurd cc)
+    (λ h. absurd cc, λ lawful. let none = lawful_parts _ lawful in absurd cc)
 
 pub returns-in-Some-clause-named : goal.returns-in-Some-clause-named
 returns-in-Some-clause-named c =
