@@ -1,7 +1,7 @@
 -- Checkpoint 0 of a session is recorded.
 use Rattle.std.proofs.Common.{◌≡◌, ◌<◌, ◌^◌, ℕ, true, zero, suc, ◌≤◌, List, [], ◌∷◌, ap, arith, get_or, length, length-set, refl, subst, sym, ◌∙◌}
 use Rattle.std.proofs.lemmas.List.{length-map, length-replicate, nil_from_length}
-use Rattle.std.proofs.lemmas.List.Elements.{All-map, All-replicate, All-set}
+use Rattle.std.proofs.lemmas.List.Elements.{All-cons, All-map, All-nil, All-replicate, All-set}
 use Rattle.std.specs.List.{All}
 use Rattle.std.proofs.lemmas.Bool.{and_parts, ltb-true}
 use Rattle.std.specs.Prelude.{nat_lt, slice_index}
@@ -11,7 +11,7 @@ use Rattle.risc_devices.proofs.DeviceLemmas.{timer_fit}
 use Rattle.risc_pages.specs.Tables.{table_words, zero_numbers}
 use Rattle.risc_pages.specs.Pages.{ArePages, IsPage}
 use Rattle.oberon_format.specs.CheckpointParts.{CheckpointParts, no_checkpoint}
-use Rattle.oberon_format.specs.Recording.{IsFit, IsLawful, output_of}
+use Rattle.oberon_format.specs.Recording.{IsFit, IsLawful, IsUnanswered, output_of}
 use Rattle.oberon_session.proofs.Next.{Recorded, so-recorded}
 use Rattle.oberon_session.proofs.Steps.{between-none, count_of-zero, first_fault-zero, stored_of-zero, output_up_to-zero, state_at-zero}
 use Rattle.oberon_session.specs.Digits.{PlacedWords}
@@ -123,6 +123,10 @@ module _ (s : SessionParts) where
                 named = table.named;
                 bytes = λ j d within. absurd (omega arith);
               });
+          unanswered = record {
+            inputs = lawful.unanswered;
+            checkpoints = All-cons IsUnanswered first-checkpoint [] refl (All-nil IsUnanswered);
+          };
         }
 
     pub recorded-first : Recorded s 0

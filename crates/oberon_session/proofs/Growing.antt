@@ -2,10 +2,12 @@
 use Rattle.std.proofs.Common.{◌≡◌, ◌≢◌, ℕ, ◌-◌, ◌^◌, ◌<◌, ◌≤◌, List, [], ◌∷◌, ◌++◌, ap, arith, get_or, length, length-append, map, refl, subst, sym, ◌∙◌}
 use Rattle.std.proofs.lemmas.Grind.{common_steps}
 use Rattle.std.proofs.lemmas.List.{get_or_push, length-map, length-replicate, length_push, map-append}
-use Rattle.std.proofs.lemmas.List.Elements.{All-replicate}
+use Rattle.std.proofs.lemmas.List.Elements.{All-append, All-cons, All-nil, All-replicate}
 use Rattle.std.specs.List.{All}
 use Rattle.risc_core.specs.declared.branch.TheConstants.{COUNTER_END}
 use Rattle.risc_devices.specs.DeviceState.{DeviceState, IsDeviceState}
+use Rattle.risc_devices.specs.declared.disk.TheConstants.{UNANSWERED}
+use Rattle.risc_model.specs.DiskInputs.{IsOfDisk}
 use Rattle.risc_model.specs.MachineState.{CpuState, IsCpuState, cpu_state}
 use Rattle.risc_model.specs.declared.event.Event.{Event}
 use Rattle.risc_pages.specs.Pages.{ArePages}
@@ -15,7 +17,7 @@ use Rattle.oberon_format.proofs.CheckpointLemmas.{checkpoint_at-is}
 use Rattle.oberon_format.specs.CheckpointParts.{CheckpointParts, checkpoint_parts, no_checkpoint}
 use Rattle.oberon_format.specs.declared.checkpoint.Checkpoint.{Checkpoint}
 use Rattle.oberon_format.specs.Defined.{Outcome, claim_of, claimed}
-use Rattle.oberon_format.specs.Recording.{IsFit, IsLawful, RecordingParts, checkpoint_at, last_of, parts_of}
+use Rattle.oberon_format.specs.Recording.{IsFit, IsLawful, IsUnanswered, RecordingParts, checkpoint_at, last_of, parts_of}
 use Rattle.oberon_session.proofs.Contents.{Leads, memory-stored, table_words-grown}
 use Rattle.oberon_session.proofs.StoredLaws.{stored-law}
 use Rattle.oberon_session.proofs.LawfulMore.{lawful-more}
@@ -103,6 +105,10 @@ module _ (r : RecordingParts) (lawful : IsLawful r) where
         silent = lawful.silent;
         output = lawful.output;
         fit = lawful.fit;
+        unanswered = record {
+          inputs = All-append (λ e. ¬ (IsOfDisk e)) r.inputs inputs lawful.unanswered.inputs room.unanswered.0;
+          checkpoints = lawful.unanswered.checkpoints;
+        };
       }
 
       next-fits : IsFit stored-next.pool next
@@ -123,7 +129,7 @@ module _ (r : RecordingParts) (lawful : IsLawful r) where
           (subst ArePages grown pages)
           room.checkpoint_fits room.next.later
           (subst (λ (p : List (List ℕ)). IsFit p next) grown next-fits)
-          room.output_fits in
+          room.unanswered.1 room.output_fits in
           subst (λ (p : List (List ℕ)). IsLawful (record { pool = p; inputs = r.inputs ++ inputs; checkpoints = r.checkpoints ++ next ∷ [] })) (sym grown) more
 
 -- the same for the values of the code
@@ -164,6 +170,7 @@ too-many-pages r lawful inputs claim whole room fault.Order needs = absurd (not-
 too-many-pages r lawful inputs claim whole room fault.Inputs needs = absurd (not-pages fault.Inputs (λ e. let no : fault.Inputs ≡ fault.Memory = e in cc) (λ e. let no : fault.Inputs ≡ fault.Pages = e in cc) needs)
 too-many-pages r lawful inputs claim whole room fault.Checkpoints needs = absurd (not-pages fault.Checkpoints (λ e. let no : fault.Checkpoints ≡ fault.Memory = e in cc) (λ e. let no : fault.Checkpoints ≡ fault.Pages = e in cc) needs)
 too-many-pages r lawful inputs claim whole room fault.Output needs = absurd (not-pages fault.Output (λ e. let no : fault.Output ≡ fault.Memory = e in cc) (λ e. let no : fault.Output ≡ fault.Pages = e in cc) needs)
+too-many-pages r lawful inputs claim whole room fault.Disk needs = absurd (not-pages fault.Disk (λ e. let no : fault.Disk ≡ fault.Memory = e in cc) (λ e. let no : fault.Disk ≡ fault.Pages = e in cc) needs)
 too-many-pages r lawful inputs claim whole room fault.Pages needs =
     let many = (needs (λ e. let no : fault.Pages ≡ fault.Memory = e in cc)).1 in
     let stored = pool-stored (last_stored r) claim.words.now (last-table r lawful) lawful.pool whole in
@@ -208,8 +215,8 @@ module _ (cpu : CpuState) (devices : DeviceState) (words : List ℕ) (whole : le
     claims = ap (λ (w : List ℕ). record { state = record { cpu = cpu; devices = devices; words = w }; sent = [] }) first-led.1;
   }
 
-  pub lawful-begun : IsCpuState cpu → IsDeviceState devices → length first-stored.pool ≤ 1024 → ArePages first-stored.pool → IsLawful begun
-  lawful-begun cpus states few pages = record {
+  pub lawful-begun : IsCpuState cpu → IsDeviceState devices → devices.disk ≡ UNANSWERED → length first-stored.pool ≤ 1024 → ArePages first-stored.pool → IsLawful begun
+  lawful-begun cpus states unanswered few pages = record {
     pages = omega arith;
     pool = pages;
     events = omega arith;
@@ -230,6 +237,10 @@ module _ (cpu : CpuState) (devices : DeviceState) (words : List ℕ) (whole : le
           named = first-led.0.table.named;
           bytes = λ j d within. absurd (omega arith);
         });
+    unanswered = record {
+      inputs = All-nil (λ e. ¬ (IsOfDisk e));
+      checkpoints = All-cons IsUnanswered first [] unanswered (All-nil IsUnanswered);
+    };
   }
 
 -- ---- the last checkpoint of parts

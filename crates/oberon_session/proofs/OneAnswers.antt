@@ -3,7 +3,7 @@ use Rattle.std.proofs.Common.{◌≡◌, ◌∙◌, ℕ, List, [], ◌∷◌, Op
 use Rattle.std.proofs.lemmas.List.Elements.{All-head, All-tail}
 use Rattle.std.specs.List.{All}
 use Rattle.std.specs.Prelude.{Result, Ok, Err}
-use Rattle.risc_devices.proofs.InputLemmas.{input_of, kind_of-input_of, same_input, value_of-input_of}
+use Rattle.risc_devices.proofs.InputLemmas.{input_of, input_with_disk, kind_of-input_of, same_input, value_of-input_of}
 use Rattle.risc_model.specs.declared.event.Event.{Event}
 use Rattle.oberon_format.proofs.One.{same_event}
 use Rattle.oberon_session.proofs.Table.{faultless}
@@ -34,13 +34,14 @@ same-events (e ∷ es) (f ∷ fs) same =
     λ i. e-is i ∷ es-are i
 
 event-of : (input : InputNumbers) → InputFits input → Event
-event-of input fits = record { count = input.count; input = input_of input.kind input.value fits.1; range = omega (arith, fits.0) }
+event-of input fits = record { count = input.count; input = input_of input.kind input.value (input_with_disk input.kind input.value fits.1); range = omega (arith, fits.0) }
 
 event-of-is : (input : InputNumbers) (fits : InputFits input) → numbers_of_event (event-of input fits) ≡ input
 unfolding event-of
 event-of-is input fits =
-    let kind = kind_of-input_of input.kind input.value fits.1 in
-    let value = value_of-input_of input.kind input.value fits.1 in
+    let lawful = input_with_disk input.kind input.value fits.1 in
+    let kind = kind_of-input_of input.kind input.value lawful in
+    let value = value_of-input_of input.kind input.value lawful in
     λ i. record { count = input.count; kind = kind i; value = value i }
 
 events-of : (inputs : List InputNumbers) → All InputFits inputs → (es : List Event) × (map numbers_of_event es ≡ inputs)

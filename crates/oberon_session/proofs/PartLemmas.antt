@@ -28,13 +28,14 @@ module _ (cpu : Cpu) (rate phase : ℕ) (pages : List PlacedPage) (inputs : List
         few = placed.0;
         slots = placed.1;
         events = fit.3;
-        counts = fit.4;
+        unanswered = fit.4;
+        counts = fit.5;
       }
 
   pub range-fits : AreInRange s → PartsFit cpu rate phase pages inputs counts
   range-fits range =
       let placed = (mapped-fit 1024 (λ (page : PlacedWords). page.at < 1024) placed_view pages).1 (range.few, range.slots) in
-      ((range.counter, range.running), range.timer, placed, range.events, range.counts)
+      ((range.counter, range.running), range.timer, placed, range.events, range.unanswered, range.counts)
 
   pub in-order : RisesBy (λ (page : PlacedPage). page.at) pages × IsStrictlyIncreasing counts → AreInOrder s
   in-order rise = record {
@@ -62,6 +63,7 @@ module _ (cpu : Cpu) (rate phase : ℕ) (pages : List PlacedPage) (inputs : List
     contents = whole-pages pages;
     events = range.events;
     ordered = ordered;
+    unanswered = range.unanswered;
     counts = range.counts;
     rises = order.counts;
   }
@@ -76,6 +78,7 @@ lawful-range s lawful = record {
   few = lawful.few;
   slots = lawful.slots;
   events = lawful.events;
+  unanswered = lawful.unanswered;
   counts = lawful.counts;
 }
 

@@ -1,9 +1,11 @@
 -- Recordings that are made while a machine runs: one that begins with a state, and one with one more checkpoint. Nothing here says
 -- that a claim is true.
-use Rattle.std.specs.Prelude.{ℕ, ◌≡◌, ◌+◌, ◌<◌, ◌≤◌, List, [], ◌++◌, length}
+use Rattle.std.specs.Prelude.{ℕ, ◌≡◌, ◌≢◌, ◌+◌, ◌<◌, ◌≤◌, List, [], ◌++◌, length}
 use Rattle.std.specs.List.{All}
 use Rattle.risc_pages.specs.Tables.{table_words, zero_numbers}
+use Rattle.risc_devices.specs.declared.disk.TheConstants.{UNANSWERED}
 use Rattle.risc_model.specs.declared.event.Event.{Event}
+use Rattle.risc_model.specs.DiskInputs.{IsOfDisk}
 use Rattle.risc_model.specs.InputOrder.{AreOrdered}
 use Rattle.risc_model.specs.MachineState.{State, cpu_state}
 use Rattle.risc_model.specs.declared.inputs.TheConstants.{MAX_COUNT}
@@ -29,6 +31,12 @@ pub record IsBegun (first : State) (r : RecordingParts) : Type 0 where
   pub one : length r.checkpoints ≡ 1
   pub begins : count_at r 0 ≡ 0
   pub claims : claimed r 0 ≡ record { state = first; sent = [] }
+
+-- why a recording does not begin with devices with this answer of a disk: it has no field for an answer; or memory ran out
+abbrev pub IsBeginFault : ℕ → ExtendFault → Type 0
+IsBeginFault disk fault.Disk = disk ≢ UNANSWERED
+IsBeginFault disk fault.Memory = disk ≡ UNANSWERED
+IsBeginFault disk _ = ⊥
 
 -- ---- a recording with one more checkpoint
 
@@ -62,14 +70,19 @@ FitsCheckpoint r = length r.checkpoints ≤ LAST_CHECKPOINT
 abbrev pub FitsOutput : RecordingParts → Outcome → Type 0
 FitsOutput r claim = length (output_of r.checkpoints) + length claim.sent ≤ MAX_OUTPUT
 
+-- no new input is an answer of a disk, and the claim has none: a recording has no field for it
+abbrev pub HasNoAnswer : List Event → Outcome → Type 0
+HasNoAnswer inputs claim = All (λ e. ¬ (IsOfDisk e)) inputs × (claim.state.devices.disk ≡ UNANSWERED)
+
 -- all that is tested before anything is stored: the recording has taken its inputs, the checkpoint and the new inputs come next,
--- and there is room for the inputs, the checkpoint and the output
+-- there is room for the inputs, the checkpoint and the output, and no disk has answered
 pub record HasRoom (r : RecordingParts) (inputs : List Event) (count : ℕ) (claim : Outcome) : Type 0 where
   pub taken : HasTakenAll r
   pub next : IsNext r inputs count
   pub inputs_fit : FitInputs r inputs
   pub checkpoint_fits : FitsCheckpoint r
   pub output_fits : FitsOutput r claim
+  pub unanswered : HasNoAnswer inputs claim
 
 -- the recording has these inputs and one more checkpoint
 pub record IsExtended (old : RecordingParts) (inputs : List Event) (count : ℕ) (claim : Outcome) (new : RecordingParts)
@@ -86,8 +99,9 @@ pub record IsExtended (old : RecordingParts) (inputs : List Event) (count : ℕ)
   pub last_claims : claimed new (length old.checkpoints) ≡ claim
 
 -- why a recording is not extended: the first of these rules that is broken, in this order. It has an input at or after its last
--- checkpoint; the checkpoint or a new input does not come next; or it would have more inputs, checkpoints, output or pages than a
--- recording may have. Memory can only run out once all rules hold but the last, which the pages decide
+-- checkpoint; the checkpoint or a new input does not come next; it would have more inputs, checkpoints or output than a recording may
+-- have; a new input or the checkpoint has an answer of a disk; or it would have more pages than a recording may have. Memory can only
+-- run out once all rules hold but the last, which the pages decide
 abbrev pub IsExtendFault : RecordingParts → List Event → ℕ → Outcome → ExtendFault → Type 0
 IsExtendFault r inputs count claim fault.Pending = ¬ (HasTakenAll r)
 IsExtendFault r inputs count claim fault.Order = HasTakenAll r × ¬ (IsNext r inputs count)
@@ -96,6 +110,8 @@ IsExtendFault r inputs count claim fault.Checkpoints =
     HasTakenAll r × IsNext r inputs count × FitInputs r inputs × ¬ (FitsCheckpoint r)
 IsExtendFault r inputs count claim fault.Output =
     HasTakenAll r × IsNext r inputs count × FitInputs r inputs × FitsCheckpoint r × ¬ (FitsOutput r claim)
+IsExtendFault r inputs count claim fault.Disk =
+    HasTakenAll r × IsNext r inputs count × FitInputs r inputs × FitsCheckpoint r × FitsOutput r claim × ¬ (HasNoAnswer inputs claim)
 IsExtendFault r inputs count claim fault.Pages =
     HasRoom r inputs count claim
     × (MAX_PAGES < length r.pool + length (new_pages (claimed r (last_of r)).state.words claim.state.words))

@@ -6,6 +6,7 @@ use Rattle.std.specs.List.Sorted.{IsStrictlyIncreasing}
 use Rattle.risc_core.specs.declared.branch.TheConstants.{COUNTER_END}
 use Rattle.risc_model.specs.declared.cpu.Cpu.{Cpu}
 use Rattle.risc_model.specs.declared.event.Event.{Event}
+use Rattle.risc_model.specs.DiskInputs.{IsOfDisk}
 use Rattle.risc_model.specs.MachineState.{cpu_state}
 use Rattle.oberon_session.specs.Digits.{PlacedWords}
 use Rattle.oberon_session.specs.Ranges.{timer_fits}
@@ -31,7 +32,7 @@ session_of_parts cpu rate phase pages inputs counts =
 -- The rules leave out what the types of the parts ensure: registers, H and the words of pages are words, and inputs are in their
 -- ranges and in the order of their counts.
 
--- numbers are in their ranges, no list is too long, and the processor runs
+-- numbers are in their ranges, no list is too long, no input is of a disk, and the processor runs
 pub record AreInRange (s : SessionParts) : Type 0 where
   pub counter : s.cpu.pc < COUNTER_END
   pub running : s.cpu.stop ≡ 0
@@ -39,6 +40,7 @@ pub record AreInRange (s : SessionParts) : Type 0 where
   pub few : length s.pages ≤ 1024
   pub slots : All (λ page. page.at < 1024) s.pages
   pub events : length s.inputs ≤ MAX_EVENTS
+  pub unanswered : All (λ e. ¬ (IsOfDisk e)) s.inputs
   pub counts : CountsFit s.counts
 
 -- slots of pages and counts of checkpoints rise

@@ -4,6 +4,7 @@ use Rattle.std.specs.List.{All}
 use Rattle.std.specs.List.Sorted.{IsStrictlyIncreasing}
 use Rattle.risc_pages.specs.Pages.{IsPage}
 use Rattle.risc_model.specs.declared.event.Event.{Event}
+use Rattle.risc_model.specs.DiskInputs.{IsOfDisk}
 use Rattle.risc_model.specs.InputOrder.{AreOrdered}
 use Rattle.risc_model.specs.MachineState.{CpuState, IsCpuState}
 use Rattle.risc_model.specs.declared.inputs.TheConstants.{MAX_COUNT}
@@ -12,7 +13,8 @@ use Rattle.oberon_session.specs.Ranges.{timer_fits}
 use Rattle.recording_limits.specs.declared.limits.TheConstants.{LAST_CHECKPOINT, MAX_EVENTS}
 
 -- the processor of the initial state, its timer's rate and phase, the pages of its memory, whose other slots are zeros, the inputs
--- with their counts, and the counts of checkpoints 1 to K. Everything else in the devices of the initial state is zero
+-- with their counts, and the counts of checkpoints 1 to K. Everything else in the devices of the initial state is zero, and no disk
+-- has answered
 pub record SessionParts : Type 0 where
   pub cpu : CpuState
   pub rate : ℕ
@@ -33,8 +35,8 @@ CountFits count = (1 ≤ count) × (count ≤ MAX_COUNT)
 abbrev pub CountsFit : List ℕ → Type 0
 CountsFit counts = (length counts ≤ LAST_CHECKPOINT) × All CountFits counts
 
--- not too many pages, whose slots rise; not too many inputs, in order; not too many checkpoints, whose counts rise from 1 on; a
--- processor that runs; and a rate and a phase that a timer can have
+-- not too many pages, whose slots rise; not too many inputs, in order, and none of them of a disk; not too many checkpoints, whose
+-- counts rise from 1 on; a processor that runs; and a rate and a phase that a timer can have
 pub record IsLawful (s : SessionParts) : Type 0 where
   pub cpu : IsCpuState s.cpu
   pub running : s.cpu.stop ≡ 0
@@ -45,5 +47,6 @@ pub record IsLawful (s : SessionParts) : Type 0 where
   pub contents : All (λ page. IsPage page.words) s.pages
   pub events : length s.inputs ≤ MAX_EVENTS
   pub ordered : AreOrdered s.inputs
+  pub unanswered : All (λ e. ¬ (IsOfDisk e)) s.inputs
   pub counts : CountsFit s.counts
   pub rises : IsStrictlyIncreasing s.counts

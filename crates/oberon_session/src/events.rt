@@ -1,7 +1,8 @@
-//! The inputs of a session: tests of their ranges and their order, and the events that they are.
+//! The inputs of a session: tests of their ranges and their order, the events that they are, and a test for answers of a disk.
 
-ghost use Rattle.std.specs.Prelude.{◌≡◌, IfOk, IfErr, map};
+ghost use Rattle.std.specs.Prelude.{◌≡◌, ◌↔◌, IfOk, IfErr, IsTrue, map};
 ghost use Rattle.std.specs.List.{All};
+ghost use Rattle.risc_model.specs.DiskInputs.{IsOfDisk};
 ghost use Rattle.risc_model.specs.InputOrder.{AreOrdered};
 ghost use Rattle.oberon_session.specs.inner.Drafts.{input_view};
 ghost use Rattle.oberon_session.specs.Ranges.{input_counts};
@@ -12,6 +13,7 @@ use crate::SessionFault;
 use crate::draft::InputDraft;
 use oberon_format::{MAX_COUNT, MAX_EVENTS};
 use risc_devices::Input;
+use risc_devices::kinds::DISK;
 use risc_model::{Event, Inputs};
 use std::alloc::Global;
 
@@ -30,6 +32,13 @@ pub fn inputs_of(alloc: Global, drafts: &[InputDraft]) -> Result<Inputs, Session
         Ok(inputs) => Ok(inputs),
         Err(_) => Err(SessionFault::Order),
     }
+}
+
+/// Reports whether no input is an answer of a disk.
+pub fn are_unanswered(inputs: &[Event]) -> bool
+    ensures { IsTrue result ↔ All (λ e. ¬ (IsOfDisk e)) inputs.now }
+{
+    inputs.iter().all(|event| event.input.kind() != DISK)
 }
 
 /// Returns the events of inputs that are all in their ranges, or `Range`.

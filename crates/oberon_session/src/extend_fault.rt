@@ -3,7 +3,8 @@
 use std::alloc::{AllocError, AllocFailed};
 use thiserror::Error;
 
-/// Why a recording is not extended: the first of these rules that is broken, in this order; or memory ran out.
+/// Why a recording is not extended: the first of these rules that is broken, in this order; or memory ran out. A recording does not
+/// begin for `Disk` or `Memory`.
 ///
 /// The rules and their limits are this project's own choice.
 #[derive(Clone, Copy, Debug, PartialEq, Eq, Error)]
@@ -24,6 +25,9 @@ pub enum ExtendFault {
     /// More than 1,048,576 bytes sent in all.
     #[error("the recording sends too much")]
     Output,
+    /// An input or the devices have an answer of a disk, for which a recording has no field.
+    #[error("the recording has no disk")]
+    Disk,
     /// More than 65,536 pages.
     #[error("the recording has too many pages")]
     Pages,

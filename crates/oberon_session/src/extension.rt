@@ -11,7 +11,7 @@ ghost use Rattle.risc_pages.specs.Pages.{ArePages};
 ghost use Rattle.risc_pages.specs.Tables.{IsNamed};
 ghost use Rattle.oberon_format.specs.CheckpointParts.{checkpoint_parts};
 ghost use Rattle.oberon_format.specs.Recording.{IsLawful};
-ghost use Rattle.oberon_session.specs.Extended.{HasRoom, IsBegun, IsExtendFault, IsExtended, outcome_of};
+ghost use Rattle.oberon_session.specs.Extended.{HasRoom, IsBeginFault, IsBegun, IsExtendFault, IsExtended, outcome_of};
 ghost use Rattle.oberon_session.specs.inner.Growing.{HasGrown, NeedsPages, claim_checkpoint, stored_on, last_stored};
 ghost use Rattle.oberon_session.specs.inner.Progress.{stored_view};
 
@@ -21,18 +21,20 @@ use crate::following::next_fault;
 use crate::recorder::recording_of;
 use crate::storing::{StoredPages, store_words};
 use oberon_format::{Checkpoint, MAX_PAGES, Recording, bytes_fit};
-use risc_devices::Devices;
+use risc_devices::{Devices, UNANSWERED};
 use risc_model::{Cpu, Event, Inputs};
 use risc_pages::{Pool, Table};
 use std::alloc::{AllocError, Global};
 
-/// Returns the recording that begins with a state: no inputs, and checkpoint 0 alone. It fails only if memory runs out.
+/// Returns the recording that begins with a state: no inputs, and checkpoint 0 alone.
+///
+/// It fails only if the devices have an answer of a disk, for which a recording has no field (`Disk`), or if memory runs out.
 pub fn begin_recording(
     alloc: Global,
     cpu: Cpu,
     devices: Devices,
     words: &[u32],
-) -> Result<Recording, AllocError>
+) -> Result<Recording, ExtendFault>
     requires counter { cpu.pc < COUNTER_END }
     requires stop { cpu.stop ≤ 4 }
     requires whole { length words.now ≡ MEMORY_WORDS }
@@ -40,7 +42,14 @@ pub fn begin_recording(
     ensures begun { IfOk result (IsBegun (record { cpu = cpu_state cpu; devices = devices; words = words.now })) }
     // It is within all limits.
     ensures lawful { IfOk result IsLawful }
+    // It begins only if no disk has answered.
+    ensures unanswered { OnOk result (devices.disk ≡ UNANSWERED) }
+    // On an error, it is that a disk has answered, or that memory ran out.
+    ensures refused { IfErr result (IsBeginFault devices.disk) }
 {
+    if devices.disk() != UNANSWERED {
+        return Err(ExtendFault::Disk);
+    }
     let mut stored = StoredPages {
         pool: Pool::new(alloc),
         table: Table::zeros(),

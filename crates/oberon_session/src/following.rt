@@ -7,8 +7,10 @@ ghost use Rattle.oberon_session.specs.Extended.{HasRoom, HasTakenAll, IsExtendFa
 ghost use Rattle.oberon_session.specs.declared.extend_fault.ExtendFault.{ExtendFault};
 
 use crate::claim::Claim;
+use crate::events::are_unanswered;
 use crate::extend_fault::ExtendFault;
 use oberon_format::{LAST_CHECKPOINT, MAX_COUNT, MAX_EVENTS, MAX_OUTPUT, Recording};
+use risc_devices::UNANSWERED;
 use risc_model::Event;
 
 /// Returns the first rule that a claim breaks as the next checkpoint of a recording, with the inputs that come before it. The limit
@@ -27,7 +29,7 @@ pub fn next_fault(recording: &Recording, inputs: &[Event], claim: &Claim<'_>) ->
     limit_fault(recording, inputs, claim)
 }
 
-/// Returns the first limit that a recording would exceed with a claim and inputs that come next.
+/// Returns the first limit that a recording would exceed with a claim and inputs that come next, or `Disk`.
 fn limit_fault(recording: &Recording, inputs: &[Event], claim: &Claim<'_>) -> Option<ExtendFault>
     requires taken { HasTakenAll recording.now }
     requires next { IsNext recording.now inputs.now claim.now.count }
@@ -44,6 +46,9 @@ fn limit_fault(recording: &Recording, inputs: &[Event], claim: &Claim<'_>) -> Op
     }
     if claim.sent.len() > MAX_OUTPUT as usize - recording.output_len() {
         return Some(ExtendFault::Output);
+    }
+    if claim.devices.disk() != UNANSWERED || !are_unanswered(inputs) {
+        return Some(ExtendFault::Disk);
     }
     None
 }

@@ -9,6 +9,7 @@ ghost use Rattle.oberon_session.specs.inner.Tested.{PartsFit, PlacedFit, RisesBy
 
 use crate::SessionFault;
 use crate::digits::PlacedPage;
+use crate::events::are_unanswered;
 use crate::range::{counts_fit, rises, timer_fits};
 use oberon_format::MAX_EVENTS;
 use risc_core::COUNTER_END;
@@ -37,7 +38,7 @@ pub fn parts_fault(
     None
 }
 
-/// Reports whether numbers are in their ranges, no list is too long, and the processor runs.
+/// Reports whether numbers are in their ranges, no list is too long, no input is of a disk, and the processor runs.
 fn are_in_range(
     cpu: &Cpu,
     rate: u32,
@@ -52,6 +53,7 @@ fn are_in_range(
         && timer_fits(rate as u64, phase as u64)
         && pages_fit(pages)
         && inputs.events().len() <= MAX_EVENTS as usize
+        && are_unanswered(inputs.events())
         && counts_fit(counts)
 }
 

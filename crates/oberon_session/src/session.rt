@@ -18,8 +18,8 @@ use std::marker::Model;
 /// | inputs | at most 1,000,000, their counts not falling and at most 2^40 |
 /// | checkpoints | at most 4,096, their counts from 1 to 2^40 and rising |
 ///
-/// The initial state is not stopped. Everything else in its devices is zero, and so is its memory outside these pages. All limits
-/// are this project's own choice. In contracts a session is the record of its parts.
+/// The initial state is not stopped. Everything else in its devices is zero, and so is its memory outside these pages. No disk
+/// answers, before it or in an input. All limits are this project's own choice. In contracts a session is the record of its parts.
 #[derive(Drop)]
 pub struct Session {
     pub(crate) cpu: Cpu,
@@ -47,8 +47,8 @@ impl Session {
     ghost use Rattle.oberon_session.specs.Parts.{BreaksParts, placed_view, session_of_parts};
     ghost use Rattle.oberon_session.specs.SessionParts.{IsLawful};
 
-    /// Returns the session of these parts, or the first rule that they break: numbers are in their ranges, no list is too long and
-    /// the processor runs (`Range`), and then slots of pages and counts of checkpoints rise (`Order`).
+    /// Returns the session of these parts, or the first rule that they break: numbers are in their ranges, no list is too long, no
+    /// input is of a disk and the processor runs (`Range`), and then slots of pages and counts of checkpoints rise (`Order`).
     ///
     /// The timer of the initial state has this rate and this phase; both are 0 for a timer that only inputs set. On an error the
     /// parts are dropped. It allocates nothing.

@@ -9,6 +9,7 @@ use Rattle.risc_core.specs.declared.branch.TheConstants.{COUNTER_END}
 use Rattle.risc_devices.specs.InputKind.{IsInput}
 use Rattle.risc_model.specs.declared.cpu.Cpu.{Cpu}
 use Rattle.risc_model.specs.declared.event.Event.{Event}
+use Rattle.risc_model.specs.DiskInputs.{IsOfDisk}
 use Rattle.risc_model.specs.InputOrder.{AreOrdered}
 use Rattle.risc_model.specs.declared.inputs.TheConstants.{MAX_COUNT}
 use Rattle.risc_pages.specs.declared.sizes.TheConstants.{PAGE_SLOTS}
@@ -83,11 +84,11 @@ NumbersRise d = RisesBy (λ page. page.at) d.pages.items × IsStrictlyIncreasing
 abbrev pub PlacedFit : List PlacedPage → Type 0
 PlacedFit pages = (length pages ≤ PAGE_SLOTS) × All (λ page. page.at < PAGE_SLOTS) pages
 
--- a processor that runs, and numbers that are in their ranges
+-- a processor that runs, numbers that are in their ranges, and no input of a disk
 abbrev pub PartsFit : Cpu → ℕ → ℕ → List PlacedPage → List Event → List ℕ → Type 0
 PartsFit cpu rate phase pages inputs counts =
     ((cpu.pc < COUNTER_END) × (cpu.stop ≡ 0)) × IsTrue (timer_fits rate phase) × PlacedFit pages × (length inputs ≤ MAX_EVENTS)
-    × CountsFit counts
+    × All (λ e. ¬ (IsOfDisk e)) inputs × CountsFit counts
 
 -- ---- faults
 

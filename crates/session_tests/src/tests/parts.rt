@@ -1,8 +1,11 @@
 //! Sessions that are made of their parts: each refusal, and the session of the stored run.
 
 use oberon_format::{words_fit, write};
-use oberon_session::{PlacedPage, Session, SessionFault, make_recording, read_session};
-use risc_model::{Cpu, Flags, Inputs};
+use oberon_session::{
+    ExtendFault, PlacedPage, Session, SessionFault, begin_recording, make_recording, read_session,
+};
+use risc_devices::{Devices, Input};
+use risc_model::{Cpu, Event, Flags, Inputs};
 use risc_pages::Page;
 use std::alloc::Global;
 
@@ -160,6 +163,42 @@ fn refuses_parts_by_the_rules_of_a_session(rt: HostRuntime) {
     if let Some(name) = parts_of_another_fault(rt.alloc()) {
         panic!(rt; "{name}");
     }
+}
+
+/// Returns the fault of a session whose only input is an answer of a disk.
+fn fault_of_an_answer(alloc: Global) -> Option<SessionFault> {
+    let input = Input::new_with_disk(6, 0).ok()?;
+    let events = Vec::from_slice(alloc, &[Event { count: 0, input }]).ok()?;
+    let inputs = Inputs::new(events).ok()?;
+    let cpu = cpu_at(0, 0);
+    Session::from_parts(cpu, 0, 0, Vec::new(alloc), inputs, Vec::new(alloc)).err()
+}
+
+/// Returns why a recording does not begin with a disk that has answered this.
+fn fault_with_disk(alloc: Global, disk: u32) -> Option<ExtendFault> {
+    let Ok(devices) = Devices::with_timer(0, 0, 0) else {
+        return None;
+    };
+    let Ok(words) = vec![in alloc; 0; 262_144] else {
+        return Some(ExtendFault::Memory);
+    };
+    begin_recording(alloc, cpu_at(0, 0), devices.with_disk(disk), &words).err()
+}
+
+#[test]
+fn refuses_answers_of_a_disk(rt: HostRuntime) {
+    let alloc = rt.alloc();
+    let range = Some(SessionFault::Range);
+    assert!(rt; fault_of_an_answer(alloc) == range, "as an input");
+    assert!(rt;
+        fault_with_disk(alloc, 255).is_none(),
+        "before its first answer"
+    );
+    let refused = Some(ExtendFault::Disk);
+    assert!(rt;
+        fault_with_disk(alloc, 0) == refused,
+        "in the initial state"
+    );
 }
 
 /// Returns the recording file of a session made of parts: MOV R0, 5 at word 0, and a checkpoint at 100.

@@ -1,14 +1,10 @@
-use Rattle.std.proofs.Common.{◌∙◌, List, ap, length, refl, sym}
-use Rattle.std.proofs.lemmas.List.{length-map}
+use Rattle.std.proofs.Common.{refl}
 use Rattle.oberon_session.proofs.Lawful.{is-lawful}
-use Rattle.oberon_session.specs.Draft.{InputNumbers}
 use Rattle.oberon_session.specs.inner.Drafts.{draft_view}
-use Rattle.oberon_session.specs.Session.{numbers_of_event}
 use Rattle.oberon_session.proofs.reading.session_of.Goals as goal
 
 pub invariant_of-result : goal.invariant_of-result
 invariant_of-result c =
     let tested = c.in_ok-inputs.ensures.ok in
-    let many = sym (length-map c.in_ok-inputs.inputs numbers_of_event) ∙ ap (λ (l : List InputNumbers). length l) tested.numbers in
     is-lawful (draft_view c.args.draft) c.cpu_of.result _ _ c.in_ok-pages.pages.items c.in_ok-inputs.inputs c.args.draft.checkpoints.items
-    tested.range tested.order tested.ordered many c.cpu_of.ensures refl refl (rw c.deref.ensures.value at c.in_ok-pages.ensures) refl
+    tested.range tested.order tested.ordered tested.numbers c.cpu_of.ensures refl refl (rw c.deref.ensures.value at c.in_ok-pages.ensures) refl
