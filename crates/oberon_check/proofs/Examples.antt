@@ -8,7 +8,7 @@ use Rattle.risc_model.specs.MachineState.{CpuState}
 use Rattle.oberon_format.specs.FirstFault.{Rule, each}
 use Rattle.oberon_format.specs.Recording.{RecordingParts}
 use Rattle.oberon_check.specs.declared.part.Part.{Part}
-use Rattle.oberon_check.specs.declared.part.Part.TheVariants.{R, H, Pc, Flags, Stop, Timer, Rate, Phase, Switches, Leds, Mouse, Serial, Keys, Sent, Page}
+use Rattle.oberon_check.specs.declared.part.Part.TheVariants.{R, H, Pc, Flags, Stop, Timer, Rate, Phase, Switches, Leds, Mouse, Serial, Keys, Disk, Sent, Page}
 use Rattle.oberon_check.specs.declared.verdict.Verdict.TheVariants.{Accepted, FalseAt}
 use Rattle.oberon_check.specs.Difference.{register_parts, control_parts, device_parts}
 use Rattle.oberon_check.specs.Line.{part_name, line_of, status_of}
@@ -21,7 +21,7 @@ order_of_registers : (a b : List ℕ) → map (λ (rule : Rule Part). rule.1) (r
 unfolding each
 order_of_registers a b = refl
 
-order_of_devices : (a b : DeviceState) → map (λ (rule : Rule Part). rule.1) (device_parts a b) ≡ Timer ∷ Rate ∷ Phase ∷ Switches ∷ Leds ∷ Mouse ∷ Serial ∷ Keys ∷ []
+order_of_devices : (a b : DeviceState) → map (λ (rule : Rule Part). rule.1) (device_parts a b) ≡ Timer ∷ Rate ∷ Phase ∷ Switches ∷ Leds ∷ Mouse ∷ Serial ∷ Keys ∷ Disk ∷ []
 order_of_devices a b = refl
 
 order_of_control : (a b : CpuState) → map (λ (rule : Rule Part). rule.1) (control_parts a b) ≡ H ∷ Pc ∷ Flags ∷ Stop ∷ []

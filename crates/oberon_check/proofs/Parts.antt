@@ -121,6 +121,7 @@ same_devices a b h = λ i. record {
   serial = eqb-true _ _ serial.0 i;
   received = (booleans_Decides a.received b.received).0 serial.1 i;
   keys = (bytes_decides a.keys b.keys).0 (all 7 d (omega arith)) i;
+  disk = eqb-true _ _ (all 8 d (omega arith)) i;
 }
   where
     d : Rule Part
@@ -187,7 +188,7 @@ no_control c = rw (number c.h, number c.pc, flag c.flags.n, flag c.flags.z, flag
 
 no_device : (d : DeviceState) → first_broken (device_parts d d) ≡ None
 no_device d =
-    rw (number d.timer, number d.rate, number d.phase, number d.switches, number d.leds, number d.mouse, number d.serial, flag d.received, bytes d.keys) refl
+    rw (number d.timer, number d.rate, number d.phase, number d.switches, number d.leds, number d.mouse, number d.serial, flag d.received, bytes d.keys, number d.disk) refl
 
 no_page : (words : List ℕ) → first_broken (page_parts words words) ≡ None
 no_page words = each_met (λ p. pointwise nat_eq (page_at words p) (page_at words p)) Page 1024 (λ p lt. bytes (page_at words p))

@@ -11,7 +11,7 @@ use Rattle.oberon_format.specs.Defined.{Outcome}
 use Rattle.oberon_format.specs.FirstFault.{Rule, each, first_broken}
 use Rattle.oberon_check.specs.declared.part.Part.{Part}
 use Rattle.oberon_check.specs.declared.part.Part.TheVariants.{R, H, Pc, Flags, Stop, Timer, Rate, Phase, Switches, Leds, Mouse}
-use Rattle.oberon_check.specs.declared.part.Part.TheVariants.{Serial, Keys, Sent, Page}
+use Rattle.oberon_check.specs.declared.part.Part.TheVariants.{Serial, Keys, Disk, Sent, Page}
 
 -- whether the four flags are the same
 abbrev pub same_flags : FlagsState → FlagsState → Bool
@@ -45,6 +45,7 @@ device_parts a b =
     ∷ (a.mouse == b.mouse, Mouse)
     ∷ (a.serial == b.serial && beq a.received b.received, Serial)
     ∷ (pointwise nat_eq a.keys b.keys, Keys)
+    ∷ (a.disk == b.disk, Disk)
     ∷ []
 
 -- the pages of the memory: page p has the words 256 * p to 256 * p + 255

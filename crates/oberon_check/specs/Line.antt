@@ -3,7 +3,7 @@ use Rattle.std.specs.Prelude.{ℕ, List, ◌++◌, codes}
 use Rattle.std.specs.Fmt.{decimal}
 use Rattle.oberon_check.specs.declared.part.Part.{Part}
 use Rattle.oberon_check.specs.declared.part.Part.TheVariants.{R, H, Pc, Flags, Stop, Timer, Rate, Phase, Switches, Leds, Mouse}
-use Rattle.oberon_check.specs.declared.part.Part.TheVariants.{Serial, Keys, Sent, Page}
+use Rattle.oberon_check.specs.declared.part.Part.TheVariants.{Serial, Keys, Disk, Sent, Page}
 use Rattle.oberon_check.specs.declared.verdict.Verdict.{Verdict}
 use Rattle.oberon_check.specs.declared.verdict.Verdict.TheVariants.{Accepted, FalseAt}
 
@@ -22,6 +22,7 @@ part_name Leds = codes "LEDs"
 part_name Mouse = codes "mouse"
 part_name Serial = codes "serial"
 part_name Keys = codes "keys"
+part_name Disk = codes "disk"
 part_name Sent = codes "out"
 part_name (Page p) = codes "page " ++ decimal p
 

@@ -86,6 +86,9 @@ fn device_difference(claimed: &Devices, devices: &Devices) -> Option<Part>
     if claimed.keys() != devices.keys() {
         return Some(Part::Keys);
     }
+    if claimed.disk() != devices.disk() {
+        return Some(Part::Disk);
+    }
     None
 }
 

@@ -38,6 +38,8 @@ pub enum Part {
     Serial,
     /// The waiting key codes: `keys`.
     Keys,
+    /// What the disk answered last: `disk`.
+    Disk,
     /// The bytes sent since the checkpoint before: `out`.
     Sent,
     /// The memory in this page slot, 0 to 1,023: `page 0` to `page 1023`.
@@ -63,6 +65,7 @@ impl Part {
             Part::Mouse => "mouse",
             Part::Serial => "serial",
             Part::Keys => "keys",
+            Part::Disk => "disk",
             Part::Sent => "out",
             Part::Page(_) => "page ",
         }

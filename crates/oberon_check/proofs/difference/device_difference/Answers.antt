@@ -26,5 +26,8 @@ returns-then-serial c = grind (arith, common_steps)
 pub returns-then-ne : goal.returns-then-ne
 returns-then-ne c = grind (arith, common_steps)
 
+pub returns-then-disk : goal.returns-then-disk
+returns-then-disk c = grind (arith, common_steps)
+
 pub returns : goal.returns
 returns c = grind (arith, common_steps)
