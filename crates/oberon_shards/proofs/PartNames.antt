@@ -29,6 +29,7 @@ part_lacks part.Leds = lacks_text 10 (codes "LEDs") refl
 part_lacks part.Mouse = lacks_text 10 (codes "mouse") refl
 part_lacks part.Serial = lacks_text 10 (codes "serial") refl
 part_lacks part.Keys = lacks_text 10 (codes "keys") refl
+part_lacks part.Disk = lacks_text 10 (codes "disk") refl
 part_lacks part.Sent = lacks_text 10 (codes "out") refl
 part_lacks (part.Page n) = lacks_append 10 (codes "page ") (decimal n) (lacks_text 10 (codes "page ") refl) (decimal_lacks 10 n (omega arith))
 
@@ -51,6 +52,7 @@ part_at part.Leds register page inside r g = refl
 part_at part.Mouse register page inside r g = refl
 part_at part.Serial register page inside r g = refl
 part_at part.Keys register page inside r g = refl
+part_at part.Disk register page inside r g = refl
 part_at part.Sent register page inside r g = refl
 part_at (part.Page n) register page inside r g = ap part.Page (g n inside refl)
 
@@ -87,7 +89,7 @@ part_inside x y p is =
     let a = x.state in let b = y.state in
     let registers : AreParts (register_parts a.cpu.r b.cpu.r) = parts_each 16 _ (λ k less. (less, tt)) in
     let cpu : AreParts (cpu_parts a.cpu b.cpu) = parts_append (register_parts a.cpu.r b.cpu.r) (control_parts a.cpu b.cpu) registers (tt, (tt, (tt, (tt, tt)))) in
-    let devices : AreParts (device_parts a.devices b.devices) = (tt, (tt, (tt, (tt, (tt, (tt, (tt, (tt, tt)))))))) in
+    let devices : AreParts (device_parts a.devices b.devices) = (tt, (tt, (tt, (tt, (tt, (tt, (tt, (tt, (tt, tt))))))))) in
     let pages : AreParts (page_parts a.words b.words) = parts_each 1024 _ (λ k less. (less, tt)) in
     let last : List (Rule Part) = (pointwise nat_eq x.sent y.sent, part.Sent) ∷ page_parts a.words b.words in
     let rest : AreParts last = (tt, pages) in

@@ -139,6 +139,7 @@ fn part_from(first: u8, second: u8, register: u8, page: u16) -> Part
         b'L' => Part::Leds,
         b'm' => Part::Mouse,
         b'k' => Part::Keys,
+        b'd' => Part::Disk,
         b'o' => Part::Sent,
         b's' => match second {
             b't' => Part::Stop,

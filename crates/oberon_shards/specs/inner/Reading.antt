@@ -7,7 +7,7 @@ use Rattle.oberon_format.specs.declared.fault.Fault.TheVariants.{Short, Magic, V
 use Rattle.oberon_format.specs.declared.fault.Fault.TheVariants.{Memory}
 use Rattle.oberon_check.specs.declared.part.Part.{Part}
 use Rattle.oberon_check.specs.declared.part.Part.TheVariants.{R, H, Pc, Flags, Stop, Timer, Rate, Phase, Switches, Leds, Mouse}
-use Rattle.oberon_check.specs.declared.part.Part.TheVariants.{Serial, Keys, Sent, Page as PageOf}
+use Rattle.oberon_check.specs.declared.part.Part.TheVariants.{Serial, Keys, Disk, Sent, Page as PageOf}
 use Rattle.oberon_shards.specs.declared.shard.Finding.{Finding}
 use Rattle.oberon_shards.specs.declared.shard.Shard.{Shard}
 use Rattle.oberon_shards.specs.Shard.{IsShardOf, shard_line}
@@ -42,6 +42,7 @@ part_from first second register page =
     else if first == 76 then Leds
     else if first == 109 then Mouse
     else if first == 107 then Keys
+    else if first == 100 then Disk
     else if first == 111 then Sent
     else if first == 115 then (if second == 116 then Stop else if second == 119 then Switches else Serial)
     else if second == 104 then Phase
