@@ -1,6 +1,7 @@
 -- A recording's next checkpoint, in the words of a caller.
 use Rattle.std.proofs.Common.{◌≡◌, ◌≢◌, ◌==◌, ◌∙◌, ◌⊎◌, if◌then◌else◌, ℕ, List, [], ◌∷◌, None, ap, arith, inl, inr, map, refl, subst, sym}
 use Rattle.risc_devices.proofs.InputLemmas.{same_input}
+use Rattle.risc_devices.specs.declared.disk.TheConstants.{UNANSWERED}
 use Rattle.risc_model.specs.declared.event.Event.{Event}
 use Rattle.oberon_format.proofs.One.{same_event}
 use Rattle.oberon_format.specs.Defined.{Outcome}
@@ -147,7 +148,7 @@ no-other code (inr full) n _ not_full is = absurd (not_full (sym is ∙ full))
 
 -- if a recording is not extended for a fault, what is refused is that
 module _ (text : List ℕ) (inputs : List RawInput) (events : List Event) (claim : Claim) (recording : RecordingParts) (is : Text text recording)
-    (are : AreEvents inputs events) where
+    (are : AreEvents inputs events) (unanswered : claim.devices.disk ≡ UNANSWERED) where
   full : (why : ExtendFault) → IsExtendFault recording events claim.count (outcome_of claim) why → HasFault text inputs claim why
   full why wrong = record { recording = recording; is_text = is; events = events; are_events = are; is_fault = wrong }
 
@@ -158,6 +159,7 @@ module _ (text : List ℕ) (inputs : List RawInput) (events : List Event) (claim
   unextended-full none fault.Inputs wrong = full fault.Inputs wrong
   unextended-full none fault.Checkpoints wrong = full fault.Checkpoints wrong
   unextended-full none fault.Output wrong = full fault.Output wrong
+  unextended-full none fault.Disk wrong = absurd (wrong.5 (are.unanswered, unanswered))
   unextended-full none fault.Pages wrong = full fault.Pages wrong
   unextended-full none fault.Memory wrong = none
 

@@ -3,6 +3,7 @@ mod WordLemmas
 mod TextLemmas
 mod ClaimLemmas
 mod FrameLemmas
+mod DiskLemmas
 mod InputLemmas
 mod ConditionLemmas
 mod HitLemmas

@@ -5,6 +5,7 @@ use Rattle.risc_core.specs.Flags.{flags_of}
 use Rattle.risc_devices.specs.DeviceState.{AreParts, DeviceState, state_of_parts}
 use Rattle.risc_devices.specs.Input.{kind_of, value_of}
 use Rattle.risc_model.specs.declared.event.Event.{Event}
+use Rattle.risc_model.specs.DiskInputs.{IsOfDisk}
 use Rattle.risc_model.specs.InputOrder.{AreOrdered}
 use Rattle.risc_model.specs.MachineState.{CpuState, State}
 use Rattle.risc_pages.specs.declared.sizes.TheConstants.{MEMORY_WORDS}
@@ -15,7 +16,7 @@ use Rattle.galluspa.specs.declared.raw.RawInput.{RawInput}
 abbrev pub cpu_of : RawState → CpuState
 cpu_of s = record { r = s.r; h = s.h; pc = s.pc; flags = flags_of s.flags; stop = s.stop }
 
--- the devices. Only the first `key_count` bytes of `keys` are key codes
+-- the devices, whose disk has not answered: there is no field for its answer. Only the first `key_count` bytes of `keys` are key codes
 abbrev pub devices_of : RawState → DeviceState
 devices_of s = state_of_parts s.timer s.rate s.phase s.switches s.leds s.mouse s.serial (take s.key_count s.keys)
 
@@ -46,10 +47,11 @@ pub record IsWritten (state : RawState) (words : List ℕ) : Type 0 where
 abbrev pub raw_input : Event → RawInput
 raw_input e = record { count = e.count; kind = kind_of e.input; value = value_of e.input }
 
--- a caller's inputs are these events, which are in order
+-- a caller's inputs are these events, which are in order, and none of which is an answer of a disk
 pub record AreEvents (inputs : List RawInput) (events : List Event) : Type 0 where
   pub written : map raw_input events ≡ inputs
   pub ordered : AreOrdered events
+  pub unanswered : All (λ e. ¬ (IsOfDisk e)) events
 
 -- a caller's inputs are in their ranges and in order
 abbrev pub AreInOrder : List RawInput → Type 0

@@ -1,6 +1,7 @@
 //! Recordings that a caller makes while a machine runs: the beginning, and the next checkpoint.
 ghost use Rattle.std.specs.Prelude.{◌≡◌, ◌≢◌, ◌<◌, ◌≤◌, ◌⊎◌, IfErr, IfNone, IfOk, IfSome, OnOk, drop, length, take};
 ghost use Rattle.risc_core.specs.declared.branch.TheConstants.{COUNTER_END};
+ghost use Rattle.risc_devices.specs.declared.disk.TheConstants.{UNANSWERED};
 ghost use Rattle.risc_pages.specs.declared.sizes.TheConstants.{MEMORY_WORDS};
 ghost use Rattle.oberon_format.specs.Text.{IsEncoding};
 ghost use Rattle.oberon_format.specs.ByteFields.{first_fault_of};
@@ -72,6 +73,7 @@ fn claim_of<'a>(state: &RawState, words: &'a [u32], sent: &'a [u8]) -> Option<Cl
     ensures words { IfSome result (λ claim. length claim.words.now ≡ MEMORY_WORDS) }
     ensures counter { IfSome result (λ claim. claim.cpu.pc < COUNTER_END) }
     ensures stop { IfSome result (λ claim. claim.cpu.stop ≤ 4) }
+    ensures unanswered { IfSome result (λ claim. claim.devices.disk ≡ UNANSWERED) }
     ensures whole { IfSome result (λ _. IsWhole state.now words.now) }
     ensures range { IfNone result (¬ (IsWhole state.now words.now)) }
 {
@@ -109,7 +111,12 @@ fn beginning(alloc: Global, state: &RawState, words: &[u32]) -> Result<Vec<u8>, 
     let Some(claim) = claim_of(state, words, &[]) else {
         return Err(RangeOrMemory::Range);
     };
-    let recording = begin_recording(alloc, claim.cpu, claim.devices, words)?;
+    let recording = match begin_recording(alloc, claim.cpu, claim.devices, words) {
+        Ok(recording) => recording,
+        Err(ExtendFault::Memory) => return Err(RangeOrMemory::Memory),
+        // A state of a caller has no answer of a disk, and it can break no other rule.
+        Err(_) => unreachable!(),
+    };
     let bytes = write(alloc, &recording)?;
     Ok(bytes)
 }
@@ -123,6 +130,8 @@ fn unextended(fault: ExtendFault) -> Unrecorded
         ExtendFault::Inputs => Unrecorded::Inputs,
         ExtendFault::Checkpoints => Unrecorded::Checkpoints,
         ExtendFault::Output => Unrecorded::Output,
+        // Neither a state nor an input of a caller has an answer of a disk.
+        ExtendFault::Disk => Unrecorded::Range,
         ExtendFault::Pages => Unrecorded::Pages,
         ExtendFault::Memory => Unrecorded::Memory,
     }
@@ -137,6 +146,7 @@ fn extended(
     requires counter { claim.now.cpu.pc < COUNTER_END }
     requires stop { claim.now.cpu.stop ≤ 4 }
     requires whole { length claim.now.words.now ≡ MEMORY_WORDS }
+    requires unanswered { claim.now.devices.disk ≡ UNANSWERED }
     requires ordered { AreInOrder inputs.now }
     ensures more { IfOk result (IsMore bytes.now inputs.now claim.now) }
     ensures refused { IfErr result (IsNoMore bytes.now inputs.now claim.now) }

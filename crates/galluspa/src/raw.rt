@@ -3,6 +3,7 @@ ghost use Rattle.std.specs.Prelude.{◌≡◌, ◌≤◌, ◌<◌, ◌↔◌, �
 ghost use Rattle.std.specs.Prelude.{drop, length, replicate};
 ghost use Rattle.risc_core.specs.declared.branch.TheConstants.{COUNTER_END};
 ghost use Rattle.risc_core.specs.Flags.{flags_of};
+ghost use Rattle.risc_devices.specs.declared.disk.TheConstants.{UNANSWERED};
 ghost use Rattle.risc_model.specs.MachineState.{cpu_state};
 ghost use Rattle.galluspa.specs.Raw.{AreDevices, IsCpu, IsWhole, cpu_of, devices_of};
 
@@ -142,10 +143,12 @@ fn sixteen(codes: &[u8]) -> [u8; 16]
     keys
 }
 
-/// Returns the state of a processor and devices at a count, in the layout of C. The bytes after the key codes are 0.
+/// Returns the state of a processor and devices at a count, in the layout of C, which has no field for an answer of a disk. The bytes
+/// after the key codes are 0.
 pub fn state_of(count: u64, cpu: &Cpu, devices: &Devices) -> RawState
     requires counter { cpu.now.pc < COUNTER_END }
     requires stop { cpu.now.stop ≤ 4 }
+    requires unanswered { devices.now.disk ≡ UNANSWERED }
     ensures count { result.count ≡ count }
     ensures cpu { cpu_of result ≡ cpu_state cpu.now }
     ensures devices { devices_of result ≡ devices.now }

@@ -37,13 +37,14 @@ pub record HasFault (text : List ℕ) (inputs : List RawInput) (claim : Claim) (
   pub are_events : AreEvents inputs events
   pub is_fault : IsExtendFault recording events claim.count (outcome_of claim) fault
 
--- the refusal for a fault of the extension
+-- the refusal for a fault of the extension. `Disk` never occurs: neither a state nor an input of a caller has an answer of a disk
 abbrev pub unextended : ExtendFault → Unrecorded
 unextended fault.Pending = refusal.Pending
 unextended fault.Order = refusal.Range
 unextended fault.Inputs = refusal.Inputs
 unextended fault.Checkpoints = refusal.Checkpoints
 unextended fault.Output = refusal.Output
+unextended fault.Disk = refusal.Range
 unextended fault.Pages = refusal.Pages
 unextended fault.Memory = refusal.Memory
 

@@ -37,7 +37,7 @@ loop-input-preserved c =
     let is : IsRight inputs place = record {
       rises = omega (arith, here, c.loop-input.invariant.least, c.if-input-least.false);
       bounded = omega (arith, here, c.if-input-gt-MAX_COUNT.false);
-      is_input = input-there inputs place c.in-Some.event none c.loop-input-test.true c.in-Some.ensures.event;
+      is_input = input-there inputs place none c.loop-input-test.true c.in-Some.ensures.lawful;
     } in
     record {
       right = below_more (λ k. IsRight inputs k) place c.loop-input.invariant.right is;

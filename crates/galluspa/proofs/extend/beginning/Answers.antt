@@ -5,7 +5,7 @@ use Rattle.galluspa.proofs.extend.beginning.Goals as goal
 pub returns-clause-beginning : goal.returns-clause-beginning
 returns-clause-beginning c = record {
   begins = omega arith;
-  recording = c.in_ok-recording.recording;
+  recording = c.in-Ok.recording;
   begun = search arith;
   text_is = search arith;
 }
@@ -13,12 +13,7 @@ returns-clause-beginning c = record {
 pub returns-clause-whole : goal.returns-clause-whole
 returns-clause-whole c = record { is_whole = c.in-Some.ensures.whole; begins = omega arith }
 
-pub returns-in_err-recording-clause-in_range : goal.returns-in_err-recording-clause-in_range
-returns-in_err-recording-clause-in_range c =
-    let from = err_from_is_err_and c.from_residual.result c.from_residual.ensures.1 in
-    rw from.1 (λ _. record { is_whole = c.in-Some.ensures.whole; begins = omega arith })
-
 pub returns-in_err-bytes-clause-in_range : goal.returns-in_err-bytes-clause-in_range
 returns-in_err-bytes-clause-in_range c =
-    let from = err_from_is_err_and c.from_residual-in_err-bytes.result c.from_residual-in_err-bytes.ensures.1 in
+    let from = err_from_is_err_and c.from_residual.result c.from_residual.ensures.1 in
     rw from.1 (λ _. record { is_whole = c.in-Some.ensures.whole; begins = omega arith })

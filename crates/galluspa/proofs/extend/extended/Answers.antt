@@ -39,7 +39,7 @@ pub returns-clause-refused : goal.returns-clause-refused
 returns-clause-refused c =
     rw c.unextended.ensures
     (unextended-full c.args.bytes.now c.args.inputs.now c.in-Ok-inputs_of.inputs c.args.claim.now c.in-Ok.recording
-    (read-text c.args.bytes.now c.in-Ok.recording c.in-Ok.ensures) c.in-Ok-inputs_of.ensures
+    (read-text c.args.bytes.now c.in-Ok.recording c.in-Ok.ensures) c.in-Ok-inputs_of.ensures c.requires.unanswered
     (no-fault c.args.bytes.now (Text c.args.bytes.now) c.in-Ok.recording c.in-Ok.ensures)
     c.in-Err-extend_recording.fault (rw c.events.ensures.events at c.in-Err-extend_recording.ensures.refused))
 

@@ -1,4 +1,4 @@
-use Rattle.std.proofs.Common.{◌≡◌, ◌∙◌, ℕ, List, ap, length, sym}
+use Rattle.std.proofs.Common.{◌∙◌, ℕ, List, ap, length, sym}
 use Rattle.galluspa.proofs.WordLemmas.{slots_inside, with_pages-delta}
 use Rattle.galluspa.proofs.records.move_to.Goals as goal
 
