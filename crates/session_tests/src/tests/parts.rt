@@ -4,6 +4,7 @@ use oberon_format::{words_fit, write};
 use oberon_session::{
     ExtendFault, PlacedPage, Session, SessionFault, begin_recording, make_recording, read_session,
 };
+use risc_core::COUNTER_END;
 use risc_devices::{Devices, Input};
 use risc_model::{Cpu, Event, Flags, Inputs};
 use risc_pages::Page;
@@ -182,7 +183,11 @@ fn fault_with_disk(alloc: Global, disk: u32) -> Option<ExtendFault> {
     let Ok(words) = vec![in alloc; 0; 262_144] else {
         return Some(ExtendFault::Memory);
     };
-    begin_recording(alloc, cpu_at(0, 0), devices.with_disk(disk), &words).err()
+    let cpu = cpu_at(0, 0);
+    if cpu.pc >= COUNTER_END || cpu.stop > 4 {
+        return None;
+    }
+    begin_recording(alloc, cpu, devices.with_disk(disk), &words).err()
 }
 
 #[test]
