@@ -278,7 +278,7 @@ def test_kept(tmp_path: Path, monkeypatch: pytest.MonkeyPatch, capsys: pytest.Ca
     (folder / "crates.txt").write_text("under:\nit: under hex\n")
     monkeypatch.setattr(mutants, "TOP", folder)
     monkeypatch.setattr(mutants.Trial, "run", run)
-    monkeypatch.setattr(mutants, "slots", lambda: 2)
+    monkeypatch.setattr(mutants, "tried", lambda _, run: run())
     monkeypatch.setenv("XDG_CACHE_HOME", str(tmp_path / "cache"))
     monkeypatch.setattr(mutants.subprocess, "run", lambda *_, **__: SimpleNamespace(stdout=b"a kit\n"))
     both = ["loose.four", "low.two"]
