@@ -1,5 +1,5 @@
 -- How long the file of a recording can be, and that a file that is cut after that many bytes has the first fault of the whole.
-use Rattle.oberon_format.proofs.Common.{[], ap, ap₂, arith, Bool, cases_lt, change_at, change_count, CHANGE_COUNT_AT, CHANGE_LEN, change_of, change_offset, CHANGES_AT, checkpoint_of, checkpoint_rules, checkpoint_len, CheckpointFields, checkpoints, CHECKPOINTS_AT, PC_AT, drop, drop-take, each, eqb-true, EVENT_LEN, event_of, event_offset, event_start, events, EVENTS_AT, false, Fields, fields_of, first_broken, first_fault_of, FIRST_VERSION, FLAGS_AT, HEADER_LEN, if◌then◌else◌, inl, inr, KEYS_AT, KIND_AT, LAST_AT, word_since_2, le-leb, LEDS_AT, length, length-take, List, little_from-take, long_at, LONGEST_RECORDING, MAGIC_AT, MAX_OUTPUT, MOUSE_AT, named_len, nat_le, ne_eqb, None, page_id_after, PAGE_ID_AT, page_id_before, page_id_of, page_id_offset, PAGES_AT, PHASE_AT, PAGE_SLOTS, RATE_AT, RecordingParts, refl, SENT_AT, sent_below, SERIAL_AT, slice_range, Some, start, STOP_AT, subst, suc, SWITCHES_AT, sym, take, take-take, Text, total, true, VALUE_AT, version, VERSION_AT, WAITING_AT, file_len, word_at, zero, ℕ, ◌*◌, ◌+◌, ◌-◌, ◌<◌, ◌==◌, ◌∙◌, ◌∷◌, ◌≡◌, ◌≤◌}
+use Rattle.oberon_format.proofs.Common.{[], ap, ap₂, arith, Bool, cases_lt, change_at, change_count, CHANGE_COUNT_AT, CHANGE_LEN, change_of, change_offset, CHANGES_AT, checkpoint_of, checkpoint_rules, checkpoint_len, CheckpointFields, checkpoints, CHECKPOINTS_AT, PC_AT, drop, drop-take, each, eqb-true, EVENT_LEN, event_of, event_offset, event_start, events, EVENTS_AT, false, Fields, fields_of, first_broken, first_fault_with_disk, FIRST_VERSION, FLAGS_AT, HEADER_LEN, if◌then◌else◌, inl, inr, KEYS_AT, KIND_AT, LAST_AT, word_since_2, le-leb, LEDS_AT, length, length-take, List, little_from-take, long_at, LONGEST_WITH_DISK, MAGIC_AT, MAX_OUTPUT, MOUSE_AT, named_len, nat_le, ne_eqb, None, page_id_after, PAGE_ID_AT, page_id_before, page_id_of, page_id_offset, PAGES_AT, PHASE_AT, PAGE_SLOTS, RATE_AT, RecordingParts, refl, SENT_AT, sent_below, SERIAL_AT, slice_range, Some, start, STOP_AT, subst, suc, SWITCHES_AT, sym, take, take-take, TextWithDisk, total, true, VALUE_AT, version, VERSION_AT, WAITING_AT, file_len, word_at, zero, ℕ, ◌*◌, ◌+◌, ◌-◌, ◌<◌, ◌==◌, ◌∙◌, ◌∷◌, ◌≡◌, ◌≤◌, DISK_LEN}
 use Rattle.oberon_format.proofs.ChangeLemmas.{after-same}
 use Rattle.oberon_format.proofs.Encoded.{length-encoding}
 use Rattle.oberon_format.proofs.LawfulLemmas.{lawful_formed}
@@ -36,14 +36,14 @@ slice_range-take n bytes from to within =
     ]
 
 -- a file that is cut after the header has the version of the whole
-version-take : (n : ℕ) (bytes : List ℕ) → LONGEST_RECORDING < n → version (take n bytes) ≡ version bytes
+version-take : (n : ℕ) (bytes : List ℕ) → LONGEST_WITH_DISK < n → version (take n bytes) ≡ version bytes
 version-take n bytes over = word_at-take n bytes VERSION_AT (omega arith)
 
-word_since_2-take : (n : ℕ) (bytes : List ℕ) (offset : ℕ) → LONGEST_RECORDING < n → offset + 4 ≤ n → word_since_2 (take n bytes) offset ≡ word_since_2 bytes offset
+word_since_2-take : (n : ℕ) (bytes : List ℕ) (offset : ℕ) → LONGEST_WITH_DISK < n → offset + 4 ≤ n → word_since_2 (take n bytes) offset ≡ word_since_2 bytes offset
 word_since_2-take n bytes offset over within =
     ap₂ (λ (v word : ℕ). if v == FIRST_VERSION then 0 else word) (version-take n bytes over) (word_at-take n bytes offset within)
 
-checkpoint_of-take : (n : ℕ) (bytes : List ℕ) (offset : ℕ) → LONGEST_RECORDING < n → offset + CHANGES_AT ≤ n → checkpoint_of (take n bytes) offset ≡ checkpoint_of bytes offset
+checkpoint_of-take : (n : ℕ) (bytes : List ℕ) (offset : ℕ) → LONGEST_WITH_DISK < n → offset + CHANGES_AT ≤ n → checkpoint_of (take n bytes) offset ≡ checkpoint_of bytes offset
 checkpoint_of-take n bytes offset over within =
     λ i. record {
       count = long_at-take n bytes offset (omega arith) i;
@@ -68,15 +68,15 @@ change_at-take n bytes offset within =
     let number = word_at-take n bytes (offset + PAGE_ID_AT) (omega arith) in
     λ i. record { slot = at i; page_id = number i }
 
--- how far a file reaches at most up to checkpoint k: no checkpoint is longer than one of version 2 that changes each slot
+-- how far a file reaches at most up to checkpoint k: no checkpoint is longer than one of version 3 that changes each slot
 abbrev most : List ℕ → ℕ → ℕ
-most bytes k = event_offset bytes (events bytes) + (CHANGES_AT + CHANGE_LEN * PAGE_SLOTS) * k
+most bytes k = event_offset bytes (events bytes) + (CHANGES_AT + CHANGE_LEN * PAGE_SLOTS + DISK_LEN) * k
 
 -- the length that the header asks for
-named_most : (bytes : List ℕ) → AreFew (fields_of bytes) → named_len (fields_of bytes) ≤ LONGEST_RECORDING
+named_most : (bytes : List ℕ) → AreFew (fields_of bytes) → named_len (fields_of bytes) ≤ LONGEST_WITH_DISK
 named_most bytes few = go (version bytes == FIRST_VERSION) refl
   where
-    go : (b : Bool) → (version bytes == FIRST_VERSION) ≡ b → named_len (fields_of bytes) ≤ LONGEST_RECORDING
+    go : (b : Bool) → (version bytes == FIRST_VERSION) ≡ b → named_len (fields_of bytes) ≤ LONGEST_WITH_DISK
     go true is = omega (arith, few.pages, few.events, few.checkpoints, start_none bytes, named_first bytes (eqb-true (version bytes) FIRST_VERSION is))
     go false is =
         let named : named_len (fields_of bytes) ≡ start bytes 0 = rw is refl in
@@ -90,14 +90,14 @@ too_long end long over =
     rw (there, more) refl
 
 -- two files that are longer than any of a recording have as many bytes as rules ask for
-both_long : (f g : Fields) (m n : ℕ) → LONGEST_RECORDING < f.long → LONGEST_RECORDING < g.long → m ≤ LONGEST_RECORDING → n ≤ LONGEST_RECORDING → Same (size_rules m f) (size_rules n g)
+both_long : (f g : Fields) (m n : ℕ) → LONGEST_WITH_DISK < f.long → LONGEST_WITH_DISK < g.long → m ≤ LONGEST_WITH_DISK → n ≤ LONGEST_WITH_DISK → Same (size_rules m f) (size_rules n g)
 both_long f g m n over over' low low' =
     let there : nat_le m f.long ≡ true = le-leb _ _ (omega arith) in
     let there' : nat_le n g.long ≡ true = le-leb _ _ (omega arith) in
     rw (there, there') refl
 
 -- a cut file, and the whole
-module _ (n : ℕ) (bytes : List ℕ) (over : LONGEST_RECORDING < n) (within : n ≤ length bytes) where
+module _ (n : ℕ) (bytes : List ℕ) (over : LONGEST_WITH_DISK < n) (within : n ≤ length bytes) where
   abbrev cut : List ℕ
   cut = take n bytes
 
@@ -128,7 +128,7 @@ module _ (n : ℕ) (bytes : List ℕ) (over : LONGEST_RECORDING < n) (within : n
 
   module _ (few : AreFew g) (k : ℕ) (less : k < checkpoints bytes) (below : Below k) where
     -- there is room for the longest checkpoint
-    room : start bytes k + (CHANGES_AT + CHANGE_LEN * PAGE_SLOTS) ≤ LONGEST_RECORDING
+    room : start bytes k + (CHANGES_AT + CHANGE_LEN * PAGE_SLOTS + DISK_LEN) ≤ LONGEST_WITH_DISK
     room = omega (arith, few.pages, few.events, few.checkpoints, below.near)
 
     -- what is in checkpoint k
@@ -221,7 +221,7 @@ module _ (n : ℕ) (bytes : List ℕ) (over : LONGEST_RECORDING < n) (within : n
     header = both_long f g HEADER_LEN HEADER_LEN (omega (arith, long)) (omega arith) (omega arith) (omega arith);
     parts = λ few. record {
       named = both_long f g (named_len (mixed f g)) (named_len g) (omega (arith, long)) (omega arith)
-          (subst (λ (m : ℕ). m ≤ LONGEST_RECORDING)
+          (subst (λ (m : ℕ). m ≤ LONGEST_WITH_DISK)
           (ap₂ (λ (v k : ℕ). if v == FIRST_VERSION then start cut k else start cut 0) (version-take n bytes over) (word_at-take n bytes CHECKPOINTS_AT (omega arith)))
           (named_most cut (few_cut few)))
           (named_most bytes few);
@@ -231,26 +231,26 @@ module _ (n : ℕ) (bytes : List ℕ) (over : LONGEST_RECORDING < n) (within : n
       ends = λ met so_far.
           let below = below_met few (checkpoints bytes) (omega arith) met in
           let end = so_far.start in let sent = so_far.sent in
-          let bounds : (start bytes (checkpoints bytes) + sent_below g (checkpoints bytes)) ≤ LONGEST_RECORDING = omega (arith, few.pages, few.events, few.checkpoints, below.near, below.sent) in
+          let bounds : (start bytes (checkpoints bytes) + sent_below g (checkpoints bytes)) ≤ LONGEST_WITH_DISK = omega (arith, few.pages, few.events, few.checkpoints, below.near, below.sent) in
           too_long (start cut (checkpoints bytes) + sent_below f (checkpoints bytes)) (length cut) (omega (arith, long))
           ∙ ap₂ (λ (a b : ℕ). Some (fault.Trailing (a + b))) end sent ∙ sym (too_long (file_len g) (length bytes) (omega arith));
     };
   }
 
 -- a file that is cut there has the first fault of the whole
-pub first_fault_of-take : (n : ℕ) (bytes : List ℕ) → LONGEST_RECORDING < n → n ≤ length bytes → first_fault_of (take n bytes) ≡ first_fault_of bytes
-first_fault_of-take n bytes over within = same_rules (fields_of (take n bytes)) (fields_of bytes) (agree n bytes over within)
+pub first_fault_with_disk-take : (n : ℕ) (bytes : List ℕ) → LONGEST_WITH_DISK < n → n ≤ length bytes → first_fault_with_disk (take n bytes) ≡ first_fault_with_disk bytes
+first_fault_with_disk-take n bytes over within = same_rules (fields_of (take n bytes)) (fields_of bytes) (agree n bytes over within)
 
--- the longest file has a header, 65,536 pages, 1,000,000 events, 4,097 checkpoints that change each
+-- the longest file has a header, 65,536 pages, 4,000,000 events, 4,097 checkpoints that change each
 -- slot of the table, and the output
-pub file_within : (bytes : List ℕ) (r : RecordingParts) → Text bytes r → length bytes ≤ LONGEST_RECORDING
+pub file_within : (bytes : List ℕ) (r : RecordingParts) → TextWithDisk bytes r → length bytes ≤ LONGEST_WITH_DISK
 file_within bytes r some =
     let lawful = some.is.lawful in
     let long = ap (λ (l : List ℕ). length l) some.is.is ∙ length-encoding some.version r lawful.pool (lawful_formed r lawful) in
     omega (arith, start_in_within some.version r (length r.checkpoints), lawful.pages, lawful.events, lawful.few, lawful.output)
 
 -- so no file of a recording is cut there
-pub cut_is_no_recording : (n : ℕ) (bytes : List ℕ) (r : RecordingParts) → LONGEST_RECORDING < n → n ≤ length bytes → Text (take n bytes) r → ⊥
+pub cut_is_no_recording : (n : ℕ) (bytes : List ℕ) (r : RecordingParts) → LONGEST_WITH_DISK < n → n ≤ length bytes → TextWithDisk (take n bytes) r → ⊥
 cut_is_no_recording n bytes r over within is =
-    let short : length (take n bytes) ≤ LONGEST_RECORDING = file_within (take n bytes) r is in
+    let short : length (take n bytes) ≤ LONGEST_WITH_DISK = file_within (take n bytes) r is in
     omega (arith, simp length-take at short)

@@ -1,5 +1,5 @@
 -- The fields of parts, member by member, at the offsets of their checkpoints, and the sums of their outputs.
-use Rattle.oberon_format.proofs.Common.{[], add-one, ap, arith, CHANGE_LEN, changes, CHANGES_AT, changes_in, checkpoint_at, checkpoint_len, CheckpointParts, count_before, end_rules, eq-eqb, Event, event_fields, event_start, false, Fields, fields_in, first_broken, get_or, get_or-map, le-leb, length, length-append, List, nat_le, nat_tests, ne_eqb, no_checkpoint, no_event, None, output_of, PAGE_SLOTS, prior_page_id, RecordingParts, refl, sent_below, slice_index, slice_index_or, start_in, suc, sym, table_before, total, true, VERSION, file_len, zero, zero_number, ℕ, ◌*◌, ◌+◌, ◌-◌, ◌<◌, ◌==◌, ◌∙◌, ◌∷◌, ◌≡◌, ◌≤◌}
+use Rattle.oberon_format.proofs.Common.{[], add-one, ap, arith, CHANGE_LEN, changes, CHANGES_AT, changes_in, checkpoint_at, checkpoint_len, CheckpointParts, count_before, end_rules, eq-eqb, Event, event_fields, event_start, false, Fields, fields_in, first_broken, get_or, get_or-map, le-leb, length, length-append, List, nat_le, nat_tests, ne_eqb, no_checkpoint, no_event, None, output_of, PAGE_SLOTS, prior_page_id, RecordingParts, refl, sent_below, slice_index, slice_index_or, start_in, suc, sym, table_before, total, true, VERSION_WITH_DISK, file_len, zero, zero_number, ℕ, ◌*◌, ◌+◌, ◌-◌, ◌<◌, ◌==◌, ◌∙◌, ◌∷◌, ◌≡◌, ◌≤◌, DISK_LEN}
 use Rattle.oberon_format.proofs.ChangeLemmas.{changes_few}
 use Rattle.oberon_format.proofs.RuleLemmas.{rises}
 
@@ -50,7 +50,7 @@ pub changes_in_few : (v : ℕ) (before : List ℕ) (c : CheckpointParts) → cha
 changes_in_few v before c = let few = changes_few before c.table in grind arith
 
 -- and so it is at most this long
-pub size_few : (v changes : ℕ) → changes ≤ PAGE_SLOTS → checkpoint_len v changes ≤ CHANGES_AT + CHANGE_LEN * PAGE_SLOTS
+pub size_few : (v changes : ℕ) → changes ≤ PAGE_SLOTS → checkpoint_len v changes ≤ CHANGES_AT + CHANGE_LEN * PAGE_SLOTS + DISK_LEN
 size_few v changes few = grind (arith, nat_tests)
 
 -- the offset of checkpoint 0 of parts, and of the one after each
@@ -67,13 +67,16 @@ start_in_next v r k = refl
 pub start_in_rises : (v : ℕ) (r : RecordingParts) (k n : ℕ) → k ≤ n → start_in v r k ≤ start_in v r n
 start_in_rises v r = rises (start_in v r) (λ k. let next = start_in_next v r k in omega arith)
 
--- each checkpoint of version 2 has its room
-pub changed_room : (r : RecordingParts) (k : ℕ) → start_in VERSION r k + CHANGES_AT ≤ start_in VERSION r (suc k)
-changed_room r k = let next = start_in_next VERSION r k in omega arith
+-- each checkpoint has its room
+size_more : (v changes : ℕ) → CHANGES_AT ≤ checkpoint_len v changes
+size_more v changes = grind (arith, nat_tests)
+
+pub changed_room : (v : ℕ) (r : RecordingParts) (k : ℕ) → start_in v r k + CHANGES_AT ≤ start_in v r (suc k)
+changed_room v r k = omega (arith, start_in_next v r k, size_more v (changes_in v (table_before r.checkpoints k) (checkpoint_at r k)))
 
 -- no further than as many of the longest checkpoints reach
 pub start_in_within : (v : ℕ) (r : RecordingParts) (k : ℕ)
-    → start_in v r k ≤ event_start (length r.pool) (length r.inputs) + (CHANGES_AT + CHANGE_LEN * PAGE_SLOTS) * k
+    → start_in v r k ≤ event_start (length r.pool) (length r.inputs) + (CHANGES_AT + CHANGE_LEN * PAGE_SLOTS + DISK_LEN) * k
 start_in_within v r zero = omega (arith, start_in_first v r)
 start_in_within v r (suc k) =
     let few = changes_in_few v (table_before r.checkpoints k) (checkpoint_at r k) in

@@ -1,5 +1,5 @@
 -- Fields that agree as far as rules look have the same first fault.
-use Rattle.oberon_format.proofs.Common.{[], ap, ap₂, arith, Bool, Change, change_offset, change_rules, changed_rules, CHANGES_AT, checkpoint_rules, CheckpointFields, count_before, each, end_rules, event_rules, EventFields, false, Fault, field_rules, Fields, first_broken, FIRST_VERSION, HEADER_LEN, header_rules, if◌then◌else◌, is_change, is_event, is_version, LAST_AT, limit_rules, List, MAGIC, MAGIC_AT, MAX_CHECKPOINTS, MAX_EVENTS, MAX_PAGES, named_len, nat_le, nat_tests, None, offset_of_event, Option, page_id_offset, page_id_rules, slot_floor, PAGE_SLOTS, prior_page_id, refl, Rule, sent_below, Some, suc, sym, total, true, VERSION_AT, whole_rules, zero, ℕ, ◌++◌, ◌+◌, ◌-◌, ◌<◌, ◌==◌, ◌∙◌, ◌∷◌, ◌≡◌, ◌≤◌}
+use Rattle.oberon_format.proofs.Common.{[], ap, ap₂, arith, Bool, Change, change_offset, change_rules, changed_rules, CHANGES_AT, checkpoint_rules, CheckpointFields, count_before, each, end_rules, event_rules, EventFields, false, Fault, field_rules, Fields, first_broken, FIRST_VERSION, HEADER_LEN, header_rules, if◌then◌else◌, is_change, is_event, is_version_with_disk, LAST_AT, limit_rules, List, MAGIC, MAGIC_AT, MAX_CHECKPOINTS, MAX_EVENTS_WITH_DISK, MAX_PAGES, named_len, nat_le, nat_tests, None, offset_of_event, Option, page_id_offset, page_id_rules, slot_floor, PAGE_SLOTS, prior_page_id, refl, Rule, sent_below, Some, suc, sym, total, true, VERSION_AT, whole_rules, zero, ℕ, ◌++◌, ◌+◌, ◌-◌, ◌<◌, ◌==◌, ◌∙◌, ◌∷◌, ◌≡◌, ◌≤◌, max_events}
 use Rattle.oberon_format.specs.Rules.{rules}
 use Rattle.oberon_format.proofs.ChangeLemmas.{floor_same}
 use Rattle.oberon_format.proofs.PartLemmas.{before_next, prior_more}
@@ -60,7 +60,7 @@ size_rules n f = (nat_le n f.long, fault.Short f.long) ∷ []
 -- counts of pages, events and checkpoints within their limits
 pub record AreFew (f : Fields) : Type 0 where
   pub pages : f.pages ≤ MAX_PAGES
-  pub events : f.events ≤ MAX_EVENTS
+  pub events : f.events ≤ MAX_EVENTS_WITH_DISK
   pub checkpoints : f.checkpoints ≤ MAX_CHECKPOINTS
 
 -- what is before checkpoint k
@@ -124,7 +124,7 @@ events_same : (f g : Fields) → SameParts f g → Same (each g.events (event_ru
 events_same f g same =
     same_each g.events (event_rules (mixed f g)) (event_rules g) (λ i lt.
     let floor = ap (λ (e : EventFields). if i == 0 then 0 else e.count) (same.event (i - 1) (omega arith)) in
-    ap₂ (λ (n : ℕ) (e : EventFields). first_broken ((is_event n e, fault.Event (offset_of_event g i)) ∷ [])) floor (same.event i lt))
+    ap₂ (λ (n : ℕ) (e : EventFields). first_broken ((is_event g.version n e, fault.Event (offset_of_event g i)) ∷ [])) floor (same.event i lt))
 
 -- the rules of the fields of a checkpoint, and what they say of its changes
 abbrev rules_of_fields : Fields → ℕ → List (Rule Fault)
@@ -168,7 +168,7 @@ checkpoint_same f g k so_far same = go (g.version == FIRST_VERSION) where
 -- the rules of the numbers in the header
 abbrev number_rules : Fields → List (Rule Fault)
 number_rules g =
-    ((g.first == MAGIC, fault.Magic MAGIC_AT) ∷ (is_version g.version, fault.Version VERSION_AT) ∷ []) ++ limit_rules g.pages g.events g.checkpoints
+    ((g.first == MAGIC, fault.Magic MAGIC_AT) ∷ (is_version_with_disk g.version, fault.Version VERSION_AT) ∷ []) ++ limit_rules g.version g.pages g.events g.checkpoints
     ++ ((g.last == 0, fault.Limit LAST_AT) ∷ [])
 
 few_by : (g : Fields) → first_broken (number_rules g) ≡ None → AreFew g

@@ -1,9 +1,11 @@
 //! Laws of the format, over its definitions alone. Each is the contract of a function that does nothing.
 
 ghost use Rattle.oberon_format.specs.Numbers.{HasNumbers};
-ghost use Rattle.oberon_format.specs.Laws.{HasOneRecording, HasOneFile, HasOneFileAtMost, HasReadBack, HasWrittenBack};
-ghost use Rattle.oberon_format.specs.Laws.{IsMigratedOnce, HasFileOrFault, HasFaultOfParts, HasFileOfParts, HasNamedFault};
-ghost use Rattle.oberon_format.specs.Laws.{HasLongestFile, HasFaultWithin, IsMadeOfParts};
+ghost use Rattle.oberon_format.specs.Laws.{HasOneRecording, HasOneFile, HasReadBack, HasWrittenBack, IsMigratedOnce, HasFileOrFault, HasNamedFault};
+ghost use Rattle.oberon_format.specs.Laws.{HasFileOfParts, HasFaultOfParts, IsMadeOfParts};
+ghost use Rattle.oberon_format.specs.Laws.{HasOneRecordingWithDisk, HasOneFileWithDisk, HasOneFileAtMost, HasReadBackWithDisk, HasWrittenBackWithDisk};
+ghost use Rattle.oberon_format.specs.Laws.{IsMigratedOnceWithDisk, HasFileOrFaultWithDisk, HasFaultOfPartsWithDisk, HasFileOfPartsWithDisk, HasNamedFaultWithDisk};
+ghost use Rattle.oberon_format.specs.Laws.{HasLongestFileWithDisk, HasFaultWithinWithDisk, IsMadeOfPartsWithDisk};
 
 /// States each length, offset and limit by its value.
 pub fn numbers_law()
@@ -11,18 +13,78 @@ pub fn numbers_law()
 {}
 
 /// States that a file is that of at most one recording.
-pub fn one_recording_law()
-    ensures { HasOneRecording }
+pub fn one_recording_with_disk_law()
+    ensures { HasOneRecordingWithDisk }
 {}
 
 /// States that a lawful recording has a file of version 2.
-pub fn one_file_law()
-    ensures { HasOneFile }
+pub fn one_file_with_disk_law()
+    ensures { HasOneFileWithDisk }
 {}
 
 /// States that a recording has at most one file of each version.
 pub fn one_file_at_most_law()
     ensures { HasOneFileAtMost }
+{}
+
+/// States that reading what is written of a recording returns that recording: `read(write(r)) = r`.
+pub fn read_back_with_disk_law()
+    ensures { HasReadBackWithDisk }
+{}
+
+/// States that writing what was read of a file of version 2 returns that file: `write(read(t)) = t`.
+pub fn written_back_with_disk_law()
+    ensures { HasWrittenBackWithDisk }
+{}
+
+/// States that a migrated file is its own migration: `migrate(migrate(t)) = migrate(t)`.
+pub fn migrated_again_with_disk_law()
+    ensures { IsMigratedOnceWithDisk }
+{}
+
+/// States that each byte string has a recording or a first fault, and not both.
+pub fn file_or_fault_with_disk_law()
+    ensures { HasFileOrFaultWithDisk }
+{}
+
+/// States that the first fault of a file is never an allocation failure.
+pub fn named_fault_with_disk_law()
+    ensures { HasNamedFaultWithDisk }
+{}
+
+/// States that the file of a recording has at most `LONGEST_WITH_DISK` bytes.
+pub fn longest_file_with_disk_law()
+    ensures { HasLongestFileWithDisk }
+{}
+
+/// States that a file longer than `LONGEST_WITH_DISK` bytes has the same first fault if it is cut after them.
+pub fn cut_file_with_disk_law()
+    ensures { HasFaultWithinWithDisk }
+{}
+
+/// States that parts whose numbers fit their fields, lawful or not, have an encoding in bytes.
+pub fn file_of_parts_with_disk_law()
+    ensures { HasFileOfPartsWithDisk }
+{}
+
+/// States that the encoding of parts whose numbers fit their fields, lawful or not, has the first fault of these parts.
+pub fn fault_of_parts_with_disk_law()
+    ensures { HasFaultOfPartsWithDisk }
+{}
+
+/// States that parts are lawful if and only if they have no fault.
+pub fn lawful_parts_with_disk_law()
+    ensures { IsMadeOfPartsWithDisk }
+{}
+
+/// States that a file without a disk is that of at most one recording.
+pub fn one_recording_law()
+    ensures { HasOneRecording }
+{}
+
+/// States that a lawful recording without a disk has a file of version 2.
+pub fn one_file_law()
+    ensures { HasOneFile }
 {}
 
 /// States that reading what is written of a recording returns that recording: `read(write(r)) = r`.
@@ -40,7 +102,7 @@ pub fn migrated_again_law()
     ensures { IsMigratedOnce }
 {}
 
-/// States that each byte string has a recording or a first fault, and not both.
+/// States that each byte string has a recording without a disk or a first fault, and not both.
 pub fn file_or_fault_law()
     ensures { HasFileOrFault }
 {}
@@ -50,27 +112,17 @@ pub fn named_fault_law()
     ensures { HasNamedFault }
 {}
 
-/// States that the file of a recording has at most `LONGEST_RECORDING` bytes.
-pub fn longest_file_law()
-    ensures { HasLongestFile }
-{}
-
-/// States that a file longer than `LONGEST_RECORDING` bytes has the same first fault if it is cut after them.
-pub fn cut_file_law()
-    ensures { HasFaultWithin }
-{}
-
-/// States that parts whose numbers fit their fields, lawful or not, have an encoding in bytes.
+/// States that parts whose numbers fit the fields of a file of version 2, lawful or not, have an encoding in bytes.
 pub fn file_of_parts_law()
     ensures { HasFileOfParts }
 {}
 
-/// States that the encoding of parts whose numbers fit their fields, lawful or not, has the first fault of these parts.
+/// States that the encoding of these parts has their first fault.
 pub fn fault_of_parts_law()
     ensures { HasFaultOfParts }
 {}
 
-/// States that parts are lawful if and only if they have no fault.
+/// States that parts are lawful, and without a disk, if and only if they have no fault.
 pub fn lawful_parts_law()
     ensures { IsMadeOfParts }
 {}

@@ -1,5 +1,5 @@
-use Rattle.oberon_format.proofs.Named.{fault_named}
+use Rattle.oberon_format.proofs.Named.{plain_fault_named}
 use Rattle.oberon_format.proofs.laws.named_fault_law.Goals as goal
 
 pub returns : goal.returns
-returns c = fault_named
+returns c = plain_fault_named

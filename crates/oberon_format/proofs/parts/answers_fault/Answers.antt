@@ -10,10 +10,11 @@ returns-then-disk-ne-UNANSWERED c =
     let checkpoints = c.args.checkpoints.now in let r = parts_of c.args.pool.now c.args.inputs.now checkpoints in
     let k = c.loop-k.k in let x = get_or checkpoints k c.index-checkpoints-k.result in
     let here : checkpoint_at r k ≡ checkpoint_parts x = checkpoint_here checkpoints k c.index-checkpoints-k.result c.loop-k-test.true in
+    let other : (c.args.version == VERSION_WITH_DISK) ≡ false = ne_eqb _ _ c.if-version-ne-VERSION_WITH_DISK-disk-ne-UNANSWERED.true in
     let some : ¬ (IsUnanswered (checkpoint_at r k)) = λ none.
     let own : c.disk.result ≡ UNANSWERED = c.disk.ensures.value ∙ ap (λ (y : CheckpointParts). y.devices.disk) (sym here) ∙ none in absurd (grind arith) in
-    sym (each_broken (answer_rules r) k (length checkpoints) (fault.Checkpoint c.checkpoint_start-offset.result) c.loop-k-test.true c.loop-k.invariant
-    (answer_unmet r k some ∙ ap (λ (n : ℕ). Some (fault.Checkpoint n)) (sym c.checkpoint_start-offset.ensures)))
+    sym (each_broken (answer_rules c.args.version r) k (length checkpoints) (fault.Checkpoint c.checkpoint_start-offset.result) c.loop-k-test.true c.loop-k.invariant
+    (answer_unmet c.args.version r k other some ∙ ap (λ (n : ℕ). Some (fault.Checkpoint n)) (sym c.checkpoint_start-offset.ensures)))
 
 pub loop-k-preserved : goal.loop-k-preserved
 loop-k-preserved c =
@@ -21,4 +22,4 @@ loop-k-preserved c =
     let k = c.loop-k.k in let x = get_or checkpoints k c.index-checkpoints-k.result in
     let here : checkpoint_at r k ≡ checkpoint_parts x = checkpoint_here checkpoints k c.index-checkpoints-k.result c.loop-k-test.true in
     let is : c.disk.result ≡ UNANSWERED = grind arith in
-    each_more (answer_rules r) k c.loop-k.invariant (answer_met r k (ap (λ (y : CheckpointParts). y.devices.disk) here ∙ sym c.disk.ensures.value ∙ is))
+    each_more (answer_rules c.args.version r) k c.loop-k.invariant (answer_met r k (ap (λ (y : CheckpointParts). y.devices.disk) here ∙ sym c.disk.ensures.value ∙ is))
