@@ -169,8 +169,10 @@ def test_the_functions_as_they_are(tmp_path: Path, monkeypatch: pytest.MonkeyPat
     )
     assert is_well and lines == ["mutants: it: 1 functions as they are, in 1 checks of 1 processor seconds"]
     assert (checks[0]["src/lib.rt"] or "").count("unreachable!()") == 1
-    is_well, lines, _ = tried(tmp_path / "ill", ["high.three"], monkeypatch, refused, is_unchanged=True)
-    assert not is_well and lines[0].startswith("mutants: it: FAILED: refused as it stands: it::high: no proof")
+    for said in (refused("high"), "not proved; it calls `it::low`, which is not proved"):
+        folder = tmp_path / str(len(said))
+        is_well, lines, _ = tried(folder, ["high.three"], monkeypatch, lambda _: said, is_unchanged=True)
+        assert not is_well and lines[0] == f"mutants: it: FAILED: refused as it stands: it::high: {said}"
 
 
 def test_a_mutant_that_stays_proved_fails(tmp_path: Path, monkeypatch: pytest.MonkeyPatch) -> None:
