@@ -5,6 +5,7 @@ mod first;
 mod migrated;
 mod parts;
 mod second;
+mod third;
 
 use oberon_format::Fault;
 use std::alloc::Global;

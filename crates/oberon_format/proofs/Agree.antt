@@ -1,12 +1,12 @@
 -- An encoding of parts has their fields, and so their first fault.
-use Rattle.oberon_format.proofs.Common.{[], add-zero, All, All-from_recursion, ap, ap₂, AreFormed, AreWritable, arith, H_AT, change_bytes, change_count, CHANGE_LEN, change_of, change_offset, changes, CHANGES_AT, changes_in, checkpoint_at, checkpoint_bytes, checkpoint_fields, checkpoint_of, checkpoint_len, CheckpointParts, checkpoints, rate_and_phase, common_bytes, drop, encoding, Event, event_bytes, event_fields, event_of, event_offset, event_start, events, field_words, fields_in, fields_of, first_broken, first_fault_of, FIRST_VERSION, flat_map, get_or, get_or-map, get_or_default, header_bytes, HEADER_LEN, if◌then◌else◌, inl, inr, is_version, HasStillTimer, IsWritable, key_bytes, KEYS_AT, KIND_AT, kind_fits, kind_of, word_since_2, tail_words, length, length-append, List, long_at, long_bytes, named_len, nat_le, no_change, no_checkpoint, no_event, page_id_after, page_id_before, output_of, page_at, page_id_of, page_offset, pages, PAGE_SLOTS, RATE_AT, RecordingParts, refl, REGISTERS_AT, SENT_AT, slice_index, slice_range, start, start_in, subst, suc, sym, TABLE_AT, table_before, tail_bytes, take, true, value_fits, value_of, VERSION, version, word_at, words_bytes, words_from, zero, ℕ, ◌*◌, ◌++◌, ◌+◌, ◌-◌, ◌<◌, ◌==◌, ◌^◌, ◌∙◌, ◌∷◌, ◌≡◌, ◌≤◌}
+use Rattle.oberon_format.proofs.Common.{[], add-zero, All, All-from_recursion, ap, ap₂, AreFormed, AreWritableWithDisk, arith, H_AT, change_bytes, change_count, CHANGE_LEN, change_of, change_offset, changes, CHANGES_AT, changes_in, checkpoint_at, checkpoint_bytes, checkpoint_fields, checkpoint_of, checkpoint_len, CheckpointParts, checkpoints, rate_and_phase, common_bytes, drop, encoding, Event, event_bytes, event_fields, event_of, event_offset, event_start, events, field_words, fields_in, fields_of, first_broken, first_fault_with_disk, FIRST_VERSION, flat_map, get_or, get_or-map, get_or_default, header_bytes, HEADER_LEN, if◌then◌else◌, inl, inr, is_version_with_disk, HasStillTimer, IsWritableWithDisk, key_bytes, KEYS_AT, KIND_AT, kind_fits, kind_of, word_since_2, tail_words, length, length-append, List, long_at, long_bytes, named_len, nat_le, no_change, no_checkpoint, no_event, page_id_after, page_id_before, output_of, page_at, page_id_of, page_offset, pages, PAGE_SLOTS, RATE_AT, RecordingParts, refl, REGISTERS_AT, SENT_AT, slice_index, slice_range, start, start_in, subst, suc, sym, TABLE_AT, table_before, tail_bytes, take, true, value_fits, value_of, VERSION_WITH_DISK, version, word_at, words_bytes, words_from, zero, ℕ, ◌*◌, ◌++◌, ◌+◌, ◌-◌, ◌<◌, ◌==◌, ◌^◌, ◌∙◌, ◌∷◌, ◌≡◌, ◌≤◌, false, Bool, cond, disk_words, disk_at, IsUnanswered, UNANSWERED}
 use Rattle.std.proofs.lemmas.List.{get_or_append_left}
 use Rattle.oberon_format.specs.Rules.{rules}
-use Rattle.oberon_format.proofs.Bytes.{HasBytes, bytes_left, bytes_right, long_read, words_read, word_of, parts_read, length-long_bytes, length-words_bytes}
+use Rattle.oberon_format.proofs.Bytes.{HasBytes, bytes_left, bytes_right, long_read, words_read, word_of, parts_read, length-long_bytes, length-words_bytes, length-parts}
 use Rattle.oberon_format.proofs.ChangeLemmas.{change_in, changes_few, changes-make, after-same}
 use Rattle.oberon_format.proofs.Encoded.{AreAt, encoding_parts, length-encoding, change_words, change_wide, fields_wide, header_words, header_wide, later_wide, length-changes, length-common_bytes, length-key_bytes}
 use Rattle.oberon_format.proofs.PartLemmas.{member, table_next}
-use Rattle.oberon_format.proofs.RuleLemmas.{version_cases}
+use Rattle.oberon_format.proofs.RuleLemmas.{version_cases, last_later}
 use Rattle.oberon_format.proofs.SameFields.{SameFields, mixed, same_rules, same_size}
 use Rattle.oberon_format.proofs.ReadRules.{later_first, later_second, number_first, number_second, numbers_none}
 use Rattle.oberon_format.specs.declared.fault.Fault.TheVariants as fault
@@ -30,7 +30,7 @@ pub record HasCommon (bytes : List ℕ) (p : ℕ) (c : CheckpointParts) : Type 0
   pub keys : slice_range bytes (p + KEYS_AT) (p + SENT_AT) ≡ key_bytes c.devices
   pub sent : word_at bytes (p + SENT_AT) ≡ length c.sent
 
-common_agrees : (bytes : List ℕ) (p : ℕ) (c : CheckpointParts) → IsWritable c → HasBytes bytes p (common_bytes c) → HasCommon bytes p c
+common_agrees : (bytes : List ℕ) (p : ℕ) (c : CheckpointParts) → IsWritableWithDisk c → HasBytes bytes p (common_bytes c) → HasCommon bytes p c
 unfolding common_bytes words_from
 common_agrees bytes p c fits s =
     let a = long_bytes c.count in let r = words_bytes c.cpu.r in
@@ -55,26 +55,57 @@ common_agrees bytes p c fits s =
     }
 
 -- the rest of a checkpoint, by the version
-table_is_at : (v : ℕ) (bytes : List ℕ) (p : ℕ) (before : List ℕ) (c : CheckpointParts) → IsWritable c → v ≡ FIRST_VERSION → HasBytes bytes p (checkpoint_bytes v before c)
+table_is_at : (v : ℕ) (bytes : List ℕ) (p : ℕ) (before : List ℕ) (c : CheckpointParts) → IsWritableWithDisk c → v ≡ FIRST_VERSION → HasBytes bytes p (checkpoint_bytes v before c)
     → HasBytes bytes (p + TABLE_AT) (words_bytes c.table)
 unfolding checkpoint_bytes tail_bytes
 table_is_at v bytes p before c fits first s =
     bytes_right bytes p (p + TABLE_AT) (common_bytes c) (words_bytes c.table) (omega (arith, length-common_bytes c fits.formed))
     (subst (λ (n : ℕ). HasBytes bytes p (checkpoint_bytes n before c)) first s)
 
-later_is_at : (v : ℕ) (bytes : List ℕ) (p : ℕ) (before : List ℕ) (c : CheckpointParts) → IsWritable c → v ≡ VERSION → HasBytes bytes p (checkpoint_bytes v before c)
-    → HasBytes bytes (p + RATE_AT) (words_bytes (tail_words before c) ++ flat_map change_bytes (changes before c.table))
+all_is_at : (v : ℕ) (bytes : List ℕ) (p : ℕ) (before : List ℕ) (c : CheckpointParts) → IsWritableWithDisk c → (v == FIRST_VERSION) ≡ false → HasBytes bytes p (checkpoint_bytes v before c)
+    → HasBytes bytes (p + RATE_AT) (words_bytes (tail_words before c) ++ flat_map change_bytes (changes before c.table) ++ words_bytes (disk_words v c.devices))
 unfolding checkpoint_bytes tail_bytes
+all_is_at v bytes p before c fits second s =
+    let tail = words_bytes (tail_words before c) ++ flat_map change_bytes (changes before c.table) ++ words_bytes (disk_words v c.devices) in
+    bytes_right bytes p (p + RATE_AT) (common_bytes c) tail (omega (arith, length-common_bytes c fits.formed))
+    (subst (λ (b : Bool). HasBytes bytes p (common_bytes c ++ cond b (words_bytes c.table) tail)) second s)
+
+later_is_at : (v : ℕ) (bytes : List ℕ) (p : ℕ) (before : List ℕ) (c : CheckpointParts) → IsWritableWithDisk c → (v == FIRST_VERSION) ≡ false → HasBytes bytes p (checkpoint_bytes v before c)
+    → HasBytes bytes (p + RATE_AT) (words_bytes (tail_words before c) ++ flat_map change_bytes (changes before c.table))
 later_is_at v bytes p before c fits second s =
-    bytes_right bytes p (p + RATE_AT) (common_bytes c) (words_bytes (tail_words before c) ++ flat_map change_bytes (changes before c.table)) (omega (arith, length-common_bytes c fits.formed))
-    (subst (λ (n : ℕ). HasBytes bytes p (checkpoint_bytes n before c)) second s)
+    bytes_left bytes (p + RATE_AT) (words_bytes (tail_words before c) ++ flat_map change_bytes (changes before c.table)) (words_bytes (disk_words v c.devices))
+    (all_is_at v bytes p before c fits second s)
+
+-- the disk's answer of a checkpoint, in each version
+disk_agrees : (v : ℕ) (bytes : List ℕ) (p : ℕ) (before : List ℕ) (c : CheckpointParts) → version bytes ≡ v → IsWritableWithDisk c → ((v == VERSION_WITH_DISK) ≡ false → IsUnanswered c)
+    → change_count bytes p ≡ changes_in v before c → HasBytes bytes p (checkpoint_bytes v before c) → disk_at bytes p ≡ c.devices.disk
+unfolding words_from
+disk_agrees v bytes p before c of fits quiet count s = go (v == VERSION_WITH_DISK) refl where
+  by_version : (b : Bool) → (version bytes == VERSION_WITH_DISK) ≡ b → disk_at bytes p ≡ cond b (word_at bytes (change_offset p (change_count bytes p))) UNANSWERED
+  by_version b is = ap (λ (x : Bool). cond x (word_at bytes (change_offset p (change_count bytes p))) UNANSWERED) is
+
+  go : (b : Bool) → (v == VERSION_WITH_DISK) ≡ b → disk_at bytes p ≡ c.devices.disk
+  go false is = by_version false (ap (λ (n : ℕ). n == VERSION_WITH_DISK) of ∙ is) ∙ sym (quiet is)
+  go true is =
+      let later = last_later v is in let cs = changes before c.table in let n = length cs in
+      let many : change_count bytes p ≡ n = count ∙ (rw later refl) in
+      let front = words_bytes (tail_words before c) ++ flat_map change_bytes cs in
+      let at = change_offset p n in
+      let len : length front ≡ CHANGES_AT - RATE_AT + CHANGE_LEN * n = length-append (words_bytes (tail_words before c)) (flat_map change_bytes cs)
+      ∙ omega (arith, length-words_bytes (tail_words before c), length-parts change_bytes CHANGE_LEN cs (length-changes cs)) in
+      let words : HasBytes bytes at (words_bytes (disk_words v c.devices)) =
+      bytes_right bytes (p + RATE_AT) at front (words_bytes (disk_words v c.devices)) (omega (arith, len)) (all_is_at v bytes p before c fits later s) in
+      let own : HasBytes bytes at (words_bytes (c.devices.disk ∷ [])) = subst (λ (b : Bool). HasBytes bytes at (words_bytes (cond b (c.devices.disk ∷ []) []))) is words in
+      let read = words_read bytes at 0 at 1 (c.devices.disk ∷ []) (omega arith) refl (All-from_recursion (λ x. x < 2 ^ 32) (c.devices.disk ∷ []) (fits.formed.devices.disk, tt)) own in
+      let place : word_at bytes at ≡ c.devices.disk = ap (word_at bytes) (sym (add-zero at)) ∙ ap (λ (ws : List ℕ). slice_index ws 0) read in
+      by_version true (ap (λ (n : ℕ). n == VERSION_WITH_DISK) of ∙ is) ∙ ap (λ (m : ℕ). word_at bytes (change_offset p m)) many ∙ place
 
 -- the fields that only version 2 has
 pub record HasLater (v : ℕ) (bytes : List ℕ) (p : ℕ) (before : List ℕ) (c : CheckpointParts) : Type 0 where
   pub clock : (i : ℕ) → i < length (rate_and_phase c.devices) → word_since_2 bytes (p + (RATE_AT + 4 * i)) ≡ slice_index (rate_and_phase c.devices) i
   pub count : change_count bytes p ≡ changes_in v before c
 
-later_agrees : (v : ℕ) (bytes : List ℕ) (p : ℕ) (before : List ℕ) (c : CheckpointParts) → is_version v ≡ true → version bytes ≡ v → IsWritable c
+later_agrees : (v : ℕ) (bytes : List ℕ) (p : ℕ) (before : List ℕ) (c : CheckpointParts) → is_version_with_disk v ≡ true → version bytes ≡ v → IsWritableWithDisk c
     → (v ≡ FIRST_VERSION → HasStillTimer c) → HasBytes bytes p (checkpoint_bytes v before c) → HasLater v bytes p before c
 unfolding words_from
 later_agrees v bytes p before c known of fits still s =
@@ -84,6 +115,7 @@ later_agrees v bytes p before c known of fits still s =
         count = rw (of, first) refl;
       }
       | inr second ↦
+          let later_of : (v == FIRST_VERSION) ≡ false → (version bytes == FIRST_VERSION) ≡ false = λ is. ap (λ (n : ℕ). n == FIRST_VERSION) of ∙ is in
           let words = words_bytes (tail_words before c) in
           let cs = flat_map change_bytes (changes before c.table) in
           let n = length (tail_words before c) in
@@ -91,7 +123,7 @@ later_agrees v bytes p before c known of fits still s =
           let later = words_read bytes p RATE_AT (p + RATE_AT) n (tail_words before c) refl refl (later_wide before c fits (omega (arith, changes_few before c.table)))
           (bytes_left bytes (p + RATE_AT) words cs (later_is_at v bytes p before c fits second s)) in
           let word : (i : ℕ) → i < n → word_since_2 bytes (p + (RATE_AT + 4 * i)) ≡ slice_index (tail_words before c) i = λ i lt.
-          later_second bytes (p + (RATE_AT + 4 * i)) (of ∙ second) ∙ sym (word_of bytes p RATE_AT n i 0 lt) ∙ ap (λ (ws : List ℕ). slice_index ws i) later in
+          later_second bytes (p + (RATE_AT + 4 * i)) (later_of second) ∙ sym (word_of bytes p RATE_AT n i 0 lt) ∙ ap (λ (ws : List ℕ). slice_index ws i) later in
           let all : length (tail_words before c) ≡ length (rate_and_phase c.devices) + 1 = length-append (rate_and_phase c.devices) (count ∷ []) in
           let last : change_count bytes p ≡ count = word (length (rate_and_phase c.devices)) (omega arith) in
           record {
@@ -123,8 +155,8 @@ checkpoint_agrees v bytes p before c front later =
       changes = later.count i;
     }
 
--- change i of a checkpoint of version 2
-change_agrees : (v : ℕ) (bytes : List ℕ) (p : ℕ) (before : List ℕ) (c : CheckpointParts) → v ≡ VERSION → IsWritable c → HasBytes bytes p (checkpoint_bytes v before c)
+-- change i of a checkpoint of version 2 or 3
+change_agrees : (v : ℕ) (bytes : List ℕ) (p : ℕ) (before : List ℕ) (c : CheckpointParts) → (v == FIRST_VERSION) ≡ false → IsWritableWithDisk c → HasBytes bytes p (checkpoint_bytes v before c)
     → (i : ℕ) → i < length (changes before c.table) → change_of bytes p i ≡ change_in before c.table i
 unfolding change_bytes words_from
 change_agrees v bytes p before c second fits s i lt =
@@ -137,7 +169,7 @@ change_agrees v bytes p before c second fits s i lt =
     let place : word_at bytes at ≡ change.slot = ap (word_at bytes) (sym (add-zero at)) ∙ ap (λ (ws : List ℕ). slice_index ws 0) pair in
     λ j. record { slot = place j; page_id = slice_index (pair j) 1 }
 
-module _ (v : ℕ) (bytes : List ℕ) (r : RecordingParts) (known : is_version v ≡ true) (fits : AreWritable r) (are : AreAt v bytes r) where
+module _ (v : ℕ) (bytes : List ℕ) (r : RecordingParts) (known : is_version_with_disk v ≡ true) (fits : AreWritableWithDisk r) (are : AreAt v bytes r) where
   -- the numbers of the header
   header : words_from bytes 0 0 6 ≡ header_words v r
   unfolding header_bytes
@@ -167,7 +199,7 @@ module _ (v : ℕ) (bytes : List ℕ) (r : RecordingParts) (known : is_version v
   pub event_is : (i : ℕ) (d : Event) → i < length r.inputs → event_of bytes (event_offset bytes i) ≡ event_fields (get_or r.inputs i d)
   event_is i d lt = ap (λ (n : ℕ). event_of bytes (event_start n i)) pages_are ∙ event_agrees bytes (event_start (length r.pool) i) (get_or r.inputs i d) (are.events i d lt)
 
-  fit : (k : ℕ) → k < length r.checkpoints → IsWritable (checkpoint_at r k)
+  fit : (k : ℕ) → k < length r.checkpoints → IsWritableWithDisk (checkpoint_at r k)
   fit k lt = fits.checkpoints k no_checkpoint lt
 
   module _ (still : v ≡ FIRST_VERSION → All HasStillTimer r.checkpoints) where
@@ -193,6 +225,10 @@ module _ (v : ℕ) (bytes : List ℕ) (r : RecordingParts) (known : is_version v
     pub later : (k : ℕ) → k < length r.checkpoints → HasLater v bytes (start bytes k) (table_before r.checkpoints k) (checkpoint_at r k)
     later k lt = subst (λ (p : ℕ). HasLater v bytes p (table_before r.checkpoints k) (checkpoint_at r k)) (sym (start_is k (omega arith))) (later_in k lt)
 
+    pub disk_is : ((v == VERSION_WITH_DISK) ≡ false → All IsUnanswered r.checkpoints) → (k : ℕ) → k < length r.checkpoints → disk_at bytes (start bytes k) ≡ (checkpoint_at r k).devices.disk
+    disk_is quiet k lt =
+        disk_agrees v bytes (start bytes k) (table_before r.checkpoints k) (checkpoint_at r k) version_is (fit k lt) (λ other. quiet other k no_checkpoint lt) (later k lt).count (at_start k lt)
+
     pub common : (k : ℕ) → k < length r.checkpoints → HasCommon bytes (start bytes k) (checkpoint_at r k)
     unfolding checkpoint_bytes
     common k lt =
@@ -200,11 +236,11 @@ module _ (v : ℕ) (bytes : List ℕ) (r : RecordingParts) (known : is_version v
         common_agrees bytes (start bytes k) c (fit k lt) (bytes_left bytes (start bytes k) (common_bytes c) (tail_bytes v (table_before r.checkpoints k) c) (at_start k lt))
 
     -- in version 2 the table before each has the page ids that the file determines
-    changes_agree : (k i : ℕ) → v ≡ VERSION → k < length r.checkpoints → i < length (changes (table_before r.checkpoints k) (checkpoint_at r k).table)
+    changes_agree : (k i : ℕ) → (v == FIRST_VERSION) ≡ false → k < length r.checkpoints → i < length (changes (table_before r.checkpoints k) (checkpoint_at r k).table)
         → change_of bytes (start bytes k) i ≡ change_in (table_before r.checkpoints k) (checkpoint_at r k).table i
     changes_agree k i second lt less = change_agrees v bytes (start bytes k) (table_before r.checkpoints k) (checkpoint_at r k) second (fit k lt) (at_start k lt) i less
 
-    tables_agree : (k p : ℕ) → v ≡ VERSION → k ≤ length r.checkpoints → p < PAGE_SLOTS → page_id_before bytes k p ≡ slice_index (table_before r.checkpoints k) p
+    tables_agree : (k p : ℕ) → (v == FIRST_VERSION) ≡ false → k ≤ length r.checkpoints → p < PAGE_SLOTS → page_id_before bytes k p ≡ slice_index (table_before r.checkpoints k) p
     unfolding page_id_before
     tables_agree zero p second le lt = sym (numbers_none bytes p lt)
     tables_agree (suc k) p second le lt =
@@ -216,7 +252,7 @@ module _ (v : ℕ) (bytes : List ℕ) (r : RecordingParts) (known : is_version v
         (λ i less. changes_agree k i second (omega arith) less) (tables_agree k p second (omega arith) lt) ∙ changes-make before table p lt
         ∙ ap (λ (t : List ℕ). slice_index t p) (sym (table_next r.checkpoints k))
 
-    -- the page ids of either version
+    -- the page ids of each version
     pub numbers_agree : (k p : ℕ) → k < length r.checkpoints → p < PAGE_SLOTS → page_id_of bytes k p ≡ slice_index (checkpoint_at r k).table p
     numbers_agree k p lt less =
         let c = checkpoint_at r k in
@@ -230,11 +266,11 @@ module _ (v : ℕ) (bytes : List ℕ) (r : RecordingParts) (known : is_version v
               number_first bytes k p (version_is ∙ first) ∙ ap (word_at bytes) e ∙ sym (word_of bytes at TABLE_AT PAGE_SLOTS p 0 less)
               ∙ ap (λ (ws : List ℕ). slice_index ws p) words
           | inr second ↦
-              number_second bytes k p (version_is ∙ second) ∙ tables_agree (suc k) p second (omega arith) less
+              number_second bytes k p (ap (λ (n : ℕ). n == FIRST_VERSION) version_is ∙ second) ∙ tables_agree (suc k) p second (omega arith) less
               ∙ ap (λ (t : List ℕ). slice_index t p) (table_next r.checkpoints k)
         ]
 
-    -- the changes of either version: in version 1 there are none
+    -- the changes of each version: in version 1 there are none
     all_changes : (k i : ℕ) → k < length r.checkpoints → i < changes_in v (table_before r.checkpoints k) (checkpoint_at r k)
         → change_of bytes (start bytes k) i ≡ change_in (table_before r.checkpoints k) (checkpoint_at r k).table i
     all_changes k i lt less =
@@ -278,13 +314,13 @@ module _ (v : ℕ) (bytes : List ℕ) (r : RecordingParts) (known : is_version v
         }
 
 -- and so the first fault
-pub encoding_agrees : (v : ℕ) (r : RecordingParts) → is_version v ≡ true → (v ≡ FIRST_VERSION → All HasStillTimer r.checkpoints) → AreWritable r
-    → first_fault_of (encoding v r) ≡ first_broken (rules (fields_in v r))
+pub encoding_agrees : (v : ℕ) (r : RecordingParts) → is_version_with_disk v ≡ true → (v ≡ FIRST_VERSION → All HasStillTimer r.checkpoints) → AreWritableWithDisk r
+    → first_fault_with_disk (encoding v r) ≡ first_broken (rules (fields_in v r))
 encoding_agrees v r known still fits =
     let formed : AreFormed r.checkpoints = λ i d lt. (fits.checkpoints i d lt).formed in
     same_rules (fields_of (encoding v r)) (fields_in v r)
     (fields_agree v (encoding v r) r known fits (encoding_parts v r fits.pool formed) still (length-encoding v r fits.pool formed))
 
 -- an encoding has its version
-pub version_of : (v : ℕ) (r : RecordingParts) → is_version v ≡ true → AreWritable r → version (encoding v r) ≡ v
+pub version_of : (v : ℕ) (r : RecordingParts) → is_version_with_disk v ≡ true → AreWritableWithDisk r → version (encoding v r) ≡ v
 version_of v r known fits = version_is v (encoding v r) r known fits (encoding_parts v r fits.pool (λ i d lt. (fits.checkpoints i d lt).formed))

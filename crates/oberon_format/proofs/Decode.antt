@@ -1,16 +1,16 @@
 -- What the reader makes of a file without a fault is the recording that the file encodes.
-use Rattle.oberon_format.proofs.Common.{add-zero, All, All-drop, All-from_recursion, All-take, ap, AreBytes, AreFormed, AreOrdered, ArePages, AreWritable, arith, before_count, between_none, cases_lt, Change, change_bytes, change_count, CHANGE_COUNT_AT, CHANGE_LEN, change_of, change_offset, changes, CHANGES_AT, changes_in, checkpoint_at, checkpoint_bytes, checkpoint_len, checkpoint_of, CheckpointParts, checkpoints, checkpoints_at, CHECKPOINTS_AT, common_bytes, count_before, decoded, drop, EachAt, Event, event_bytes, event_floor, event_offset, event_rules, events, EVENTS_AT, field_words, fields_of, fill_by_all, first_fault_of, FIRST_VERSION, FLAGS_AT, flat_map, get_or, get_or-map, get_or-map-range_with_len, get_or_default, get_or_past, H_AT, HasPageIds, HasStillTimer, header_bytes, if◌then◌else◌, inl, inr, IsEventAt, IsFormed, IsLawful, IsPage, IsUnanswered, IsWritable, key_bytes, KEYS_AT, KIND_AT, kind_of, leb-true, LEDS_AT, length, length-append, length-between, length-map-range_with_len, List, little_from-lt, long_at, long_bytes, map-range_with_len_more, MAX_COUNT, Meets, MOUSE_AT, no_change, no_checkpoint, number_back, output_of, output_offset, page_at, PAGE_ID_AT, page_id_before, page_id_of, page_id_offset, page_offset, PAGE_SLOTS, pages, PAGES_AT, pages_at, PC_AT, prior_page_id, rate_and_phase, RATE_AT, RecordingParts, refl, REGISTERS_AT, SENT_AT, SERIAL_AT, slice_index, slice_range, slot_floor, start, start_in, STOP_AT, subst, suc, SWITCHES_AT, sym, TABLE_AT, table_at, table_before, tail_bytes, tail_words, take, Text, TIMER_AT, value_of, version, VERSION, WAITING_AT, word_at, word_since_2, words_bytes, words_from, zero, [], ℕ, ◌*◌, ◌++◌, ◌+◌, ◌-◌, ◌<◌, ◌==◌, ◌^◌, ◌∙◌, ◌∷◌, ◌≡◌, ◌≤◌}
+use Rattle.oberon_format.proofs.Common.{[], add-zero, All, All-drop, All-from_recursion, All-take, ap, AreBytes, AreFormed, AreOrdered, ArePages, AreWritableWithDisk, arith, H_AT, before_count, between_none, cases_lt, Change, change_bytes, change_count, CHANGE_COUNT_AT, CHANGE_LEN, change_of, change_offset, changes, CHANGES_AT, changes_in, checkpoint_at, checkpoint_bytes, checkpoint_of, checkpoint_len, CheckpointParts, checkpoints, CHECKPOINTS_AT, checkpoints_at, rate_and_phase, common_bytes, count_before, PC_AT, decoded, drop, EachAt, Event, event_bytes, event_floor, event_offset, event_rules, events, EVENTS_AT, field_words, fields_of, fill_by_all, first_fault_with_disk, FIRST_VERSION, FLAGS_AT, flat_map, get_or, get_or-map, get_or-map-range_with_len, get_or_default, get_or_past, HasPageIds, header_bytes, if◌then◌else◌, inl, inr, IsEventAt, IsFormed, IsLawfulWithDisk, IsPage, HasStillTimer, IsWritableWithDisk, key_bytes, KEYS_AT, KIND_AT, kind_of, word_since_2, tail_words, leb-true, LEDS_AT, length, length-append, length-between, length-map-range_with_len, List, little_from-lt, long_at, long_bytes, map-range_with_len_more, MAX_COUNT, Meets, MOUSE_AT, no_change, no_checkpoint, PAGE_ID_AT, number_back, page_id_before, output_of, output_offset, page_at, page_id_of, page_id_offset, page_offset, pages, PAGES_AT, pages_at, slot_floor, PAGE_SLOTS, prior_page_id, RATE_AT, RecordingParts, refl, REGISTERS_AT, SENT_AT, SERIAL_AT, slice_index, slice_range, start, start_in, STOP_AT, subst, suc, SWITCHES_AT, sym, TABLE_AT, table_at, table_before, tail_bytes, take, TextWithDisk, TIMER_AT, value_of, VERSION_WITH_DISK, version, WAITING_AT, word_at, words_bytes, words_from, zero, ℕ, ◌*◌, ◌++◌, ◌+◌, ◌-◌, ◌<◌, ◌==◌, ◌^◌, ◌∙◌, ◌∷◌, ◌≡◌, ◌≤◌, false, true, Bool, cond, disk_words, disk_at, disk_len, IsUnanswered, IsOfDisk, has_kind, DISK, UNANSWERED, eq-eqb, MAX_EVENTS, max_events}
 use Rattle.risc_model.specs.InputOrder.{count_at}
 use Rattle.oberon_format.proofs.ChangeLemmas.{AreLawful, after-bounded, after-same, change_in, lawful-are}
 use Rattle.oberon_format.proofs.PartLemmas.{member, table_next}
-use Rattle.oberon_format.proofs.RuleLemmas.{each_holds, and_left, and_right, FieldsMet, checkpoint_holds, output_below, output_below_more, output_below_none, version_cases, none_hold}
+use Rattle.oberon_format.proofs.RuleLemmas.{each_holds, met_parts, and_left, and_right, FieldsMet, checkpoint_holds, output_below, output_below_more, output_below_none, version_cases, none_hold}
 use Rattle.oberon_format.proofs.Walk.{change_rises, change_inside, change_differs}
 use Rattle.oberon_format.proofs.ReadRules.{prior_is, checkpoint_changed, later_first, later_second, number_first, number_second, numbers_none}
 use Rattle.oberon_format.proofs.Agree.{encoding_agrees}
-use Rattle.oberon_format.proofs.Bytes.{HasBytes, IsBytes, all_bytes, bytes_join, length-long_bytes, length-words_bytes, length-words_from, long_back, parts_back, word_of, words_back, serial_whole}
+use Rattle.oberon_format.proofs.Bytes.{HasBytes, IsBytes, all_bytes, bytes_join, length-long_bytes, length-words_bytes, length-words_from, long_back, parts_back, word_of, words_back, serial_whole, length-parts}
 use Rattle.oberon_format.proofs.Encoded.{AreAt, header_words, length-changes, length-common_bytes, length-key_bytes, parts_encoding}
 use Rattle.oberon_format.proofs.Output.{keys-are_at, output_all, output_fits, output_more}
-use Rattle.oberon_format.proofs.LawfulLemmas.{faultless_lawful}
+use Rattle.oberon_format.proofs.LawfulLemmas.{few_events, faultless_lawful, header_within}
 use Rattle.oberon_format.proofs.Room.{common_there, changes_there, events_there, whole_there}
 
 -- the events of a file without a fault are in order
@@ -27,13 +27,13 @@ events_ordered bytes es meets len each offset lt =
     ap (λ (n : ℕ). if offset == 0 then 0 else n) (count_is_at bytes es (offset - 1) each (omega arith)) in
     let one = each_holds (event_rules f) (events bytes) offset (omega arith) meets.events_meet in
     let holds = (none_hold (event_rules f offset) one).0 in
-    let count = long_at bytes (event_offset bytes offset) in let counts = and_left _ _ holds in
+    let count = long_at bytes (event_offset bytes offset) in let counts = and_left _ _ (and_left _ _ holds) in
     let low = leb-true (event_floor f offset) count (and_left _ _ counts) in
     let high = leb-true count MAX_COUNT (and_right _ _ counts) in
     omega (arith, here, before)
 
 -- the changes of a checkpoint that breaks no rule are lawful after the table before it
-pub changes_lawful : (bytes : List ℕ) (k : ℕ) (before : List ℕ) → Meets bytes → k < checkpoints bytes → version bytes ≡ VERSION → HasPageIds before (page_id_before bytes k)
+pub changes_lawful : (bytes : List ℕ) (k : ℕ) (before : List ℕ) → Meets bytes → k < checkpoints bytes → (version bytes == FIRST_VERSION) ≡ false → HasPageIds before (page_id_before bytes k)
     → AreLawful (change_of bytes (start bytes k)) (slice_index before) (change_count bytes (start bytes k))
 changes_lawful bytes k before meets lt is has =
     let met = checkpoint_changed bytes k meets lt is in
@@ -47,6 +47,12 @@ changes_lawful bytes k before meets lt is has =
           change_differs (pages bytes) (slot_floor change i) (prior_page_id (fields_of bytes) k) (change i) (met.each_change i few) same;
     }
 
+-- a version without inputs of the disk
+no_disk : (v kind : ℕ) → (v == VERSION_WITH_DISK) ≡ false → has_kind v kind ≡ true → kind ≡ DISK → ⊥
+no_disk v kind other met is =
+    let yes : (kind == DISK) ≡ true = eq-eqb kind DISK is in
+    let wrong : has_kind v kind ≡ false = rw (other, yes) refl in absurd cc
+
 -- numbers of bytes fit
 word_fits : (bytes : List ℕ) (offset : ℕ) → AreBytes bytes → word_at bytes offset < 2 ^ 32
 unfolding word_at
@@ -56,9 +62,12 @@ pub long_fits : (bytes : List ℕ) (offset : ℕ) → AreBytes bytes → long_at
 unfolding long_at
 long_fits bytes offset are_bytes = little_from-lt offset 8 bytes (all_bytes bytes are_bytes)
 
--- the words that only version 2 has fit, and so do page ids of either version
+-- the words that only later versions have fit, and so do page ids of each version
 later_fits : (bytes : List ℕ) (offset : ℕ) → AreBytes bytes → word_since_2 bytes offset < 2 ^ 32
 later_fits bytes offset are_bytes = let fits = word_fits bytes offset are_bytes in grind arith
+
+disk_fits : (bytes : List ℕ) (offset : ℕ) → AreBytes bytes → disk_at bytes offset < 2 ^ 32
+disk_fits bytes offset are_bytes = let fits = word_fits bytes (change_offset offset (change_count bytes offset)) are_bytes in grind arith
 
 before_fits : (bytes : List ℕ) (k p : ℕ) → AreBytes bytes → page_id_before bytes k p ≤ 2 ^ 32 - 1
 unfolding page_id_before
@@ -134,7 +143,7 @@ module _ (bytes : List ℕ) (are_bytes : AreBytes bytes) (meets : Meets bytes) w
         keys = omega (arith, keys_len, few.waiting);
         codes = All-take (λ code. code < 2 ^ 8) (o + KEYS_AT + word_at bytes (o + WAITING_AT) - (o + KEYS_AT)) (drop (o + KEYS_AT) bytes)
             (All-drop (λ code. code < 2 ^ 8) (o + KEYS_AT) bytes are_bytes);
-        disk = omega arith;
+        disk = disk_fits bytes o are_bytes;
       };
       table = record {
         count = length-table_at bytes k;
@@ -144,14 +153,13 @@ module _ (bytes : List ℕ) (are_bytes : AreBytes bytes) (meets : Meets bytes) w
           All-take (λ byte. byte < 2 ^ 8) (from + word_at bytes (o + SENT_AT) - from) (drop from bytes) (All-drop (λ byte. byte < 2 ^ 8) from bytes are_bytes);
     }
 
-    fits : IsWritable c
+    fits : IsWritableWithDisk c
     fits = record {
       formed = formed;
       count = long_fits bytes o are_bytes;
       counter = word_fits bytes (o + PC_AT) are_bytes;
       stop = word_fits bytes (o + STOP_AT) are_bytes;
       sent = omega (arith, sent_len, word_fits bytes (o + SENT_AT) are_bytes);
-      unanswered = refl;
     }
 
     -- the fields that begin it are in the file
@@ -198,7 +206,7 @@ module _ (bytes : List ℕ) (are_bytes : AreBytes bytes) (meets : Meets bytes) w
         subst (λ (ws : List ℕ). HasBytes bytes (o + TABLE_AT) (words_bytes ws)) table (words_back bytes o TABLE_AT (o + TABLE_AT) PAGE_SLOTS refl each_byte (omega arith))
 
     -- and its changes in version 2, after a table that has the page ids before it
-    changes_are : version bytes ≡ VERSION → (before : List ℕ) → HasPageIds before (page_id_before bytes k)
+    changes_are : (version bytes == FIRST_VERSION) ≡ false → (before : List ℕ) → HasPageIds before (page_id_before bytes k)
         → (length (changes before c.table) ≡ change_count bytes o) × ((i : ℕ) → i < change_count bytes o → change_in before c.table i ≡ change_of bytes o i)
     unfolding page_id_before
     changes_are second before has =
@@ -206,8 +214,22 @@ module _ (bytes : List ℕ) (are_bytes : AreBytes bytes) (meets : Meets bytes) w
         table_of bytes k p 0 less ∙ number_second bytes k p second
         ∙ after-same (change_of bytes o) (change_of bytes o) (page_id_before bytes k) (slice_index before) (change_count bytes o) p (λ i _. refl) (sym (has p less)))
 
-    changed_back : version bytes ≡ VERSION → (before : List ℕ) → HasPageIds before (page_id_before bytes k)
-        → HasBytes bytes (o + RATE_AT) (words_bytes (tail_words before c) ++ flat_map change_bytes (changes before c.table))
+    -- the disk's answer
+    disk_back : (version bytes == FIRST_VERSION) ≡ false → HasBytes bytes (change_offset o (change_count bytes o)) (words_bytes (disk_words (version bytes) c.devices))
+    unfolding words_from
+    disk_back second =
+        let at = change_offset o (change_count bytes o) in
+        let there = changes_there bytes k meets lt second in
+        go at there (version bytes == VERSION_WITH_DISK) refl where
+          go : (at : ℕ) → at + disk_len (version bytes) ≤ length bytes → (b : Bool) → (version bytes == VERSION_WITH_DISK) ≡ b → HasBytes bytes at (words_bytes (cond b ((cond b (word_at bytes at) UNANSWERED) ∷ []) []))
+          go at there true is =
+              let inside : at + 4 ≤ length bytes = (rw is at there) in
+              let place = sym (ap (word_at bytes) (sym (add-zero at))) in
+              subst (λ (x : ℕ). HasBytes bytes at (words_bytes (x ∷ []))) place (words_back bytes at 0 at 1 (omega arith) each_byte (omega arith))
+          go at there false is = record { is = refl }
+
+    changed_back : (version bytes == FIRST_VERSION) ≡ false → (before : List ℕ) → HasPageIds before (page_id_before bytes k)
+        → HasBytes bytes (o + RATE_AT) (words_bytes (tail_words before c) ++ flat_map change_bytes (changes before c.table) ++ words_bytes (disk_words (version bytes) c.devices))
     unfolding words_from change_bytes
     changed_back second before has =
         let there = changes_there bytes k meets lt second in
@@ -223,24 +245,30 @@ module _ (bytes : List ℕ) (are_bytes : AreBytes bytes) (meets : Meets bytes) w
         let place = sym (ap (word_at bytes) (sym (add-zero at))) in
         subst (λ (x : Change). HasBytes bytes at (change_bytes x)) (sym is)
         (subst (λ (x : ℕ). HasBytes bytes at (words_bytes (x ∷ word_at bytes (at + PAGE_ID_AT) ∷ []))) place (words_back bytes at 0 at 2 (omega arith) each_byte (omega arith)))) in
-        bytes_join bytes (o + RATE_AT) (o + CHANGES_AT) (words_bytes (tail_words before c)) (flat_map change_bytes cs) (omega (arith, length-words_bytes (tail_words before c)))
-        later (parts_back change_bytes CHANGE_LEN bytes (o + CHANGES_AT) cs (length-changes cs) each)
+        let front = words_bytes (tail_words before c) ++ flat_map change_bytes cs in
+        let joined = bytes_join bytes (o + RATE_AT) (o + CHANGES_AT) (words_bytes (tail_words before c)) (flat_map change_bytes cs) (omega (arith, length-words_bytes (tail_words before c)))
+        later (parts_back change_bytes CHANGE_LEN bytes (o + CHANGES_AT) cs (length-changes cs) each) in
+        let long : length front ≡ CHANGES_AT - RATE_AT + CHANGE_LEN * length cs = length-append (words_bytes (tail_words before c)) (flat_map change_bytes cs)
+        ∙ omega (arith, length-words_bytes (tail_words before c), length-parts change_bytes CHANGE_LEN cs (length-changes cs)) in
+        bytes_join bytes (o + RATE_AT) (change_offset o (change_count bytes o)) front (words_bytes (disk_words (version bytes) c.devices)) (omega (arith, long, len)) joined (disk_back second)
 
     abbrev v : ℕ
     v = version bytes
 
-    checkpoint_back : (before : List ℕ) → (v ≡ VERSION → HasPageIds before (page_id_before bytes k)) → HasBytes bytes o (checkpoint_bytes v before c)
+    checkpoint_back : (before : List ℕ) → ((v == FIRST_VERSION) ≡ false → HasPageIds before (page_id_before bytes k)) → HasBytes bytes o (checkpoint_bytes v before c)
     unfolding checkpoint_bytes tail_bytes
     checkpoint_back before has =
         let len = length-common_bytes c formed in
         let back : ℕ → Type 0 = λ (n : ℕ). HasBytes bytes o (checkpoint_bytes n before c) in
         elim (version_cases v meets.sized.known) [
           | inl first ↦ subst back (sym first) (bytes_join bytes o (o + TABLE_AT) (common_bytes c) (words_bytes c.table) (omega arith) common_back (whole_back first))
-          | inr second ↦ subst back (sym second) (bytes_join bytes o (o + RATE_AT) (common_bytes c) (words_bytes (tail_words before c) ++ flat_map change_bytes (changes before c.table)) (omega arith)
-              common_back (changed_back second before (has second)))
+          | inr second ↦
+              let tail = words_bytes (tail_words before c) ++ flat_map change_bytes (changes before c.table) ++ words_bytes (disk_words v c.devices) in
+              subst (λ (b : Bool). HasBytes bytes o (common_bytes c ++ cond b (words_bytes c.table) tail)) (sym second)
+              (bytes_join bytes o (o + RATE_AT) (common_bytes c) tail (omega arith) common_back (changed_back second before (has second)))
         ]
 
-    count_back : (before : List ℕ) → (v ≡ VERSION → HasPageIds before (page_id_before bytes k)) → changes_in v before c ≡ change_count bytes o
+    count_back : (before : List ℕ) → ((v == FIRST_VERSION) ≡ false → HasPageIds before (page_id_before bytes k)) → changes_in v before c ≡ change_count bytes o
     count_back before has =
         elim (version_cases v meets.sized.known) [
           | inl first ↦ rw first refl
@@ -259,7 +287,7 @@ module _ (bytes : List ℕ) (are_bytes : AreBytes bytes) (meets : Meets bytes) w
   checkpoint_is : (n k : ℕ) (d : CheckpointParts) → k < n → get_or (checkpoints_at bytes n) k d ≡ decoded bytes k
   checkpoint_is n k d lt = get_or-map-range_with_len (decoded bytes) 0 n k k d lt (omega arith)
 
-  numbers_before : (n k : ℕ) → k < n → version bytes ≡ VERSION → HasPageIds (table_before (checkpoints_at bytes n) k) (page_id_before bytes k)
+  numbers_before : (n k : ℕ) → k < n → (version bytes == FIRST_VERSION) ≡ false → HasPageIds (table_before (checkpoints_at bytes n) k) (page_id_before bytes k)
   numbers_before n zero lt second p less = numbers_none bytes p less
   numbers_before n (suc k) lt second p less =
       ap (λ (t : List ℕ). slice_index t p) (table_next (checkpoints_at bytes n) k ∙ ap (λ (x : CheckpointParts). x.table) (checkpoint_is n k no_checkpoint (omega arith)))
@@ -303,13 +331,13 @@ module _ (bytes : List ℕ) (are_bytes : AreBytes bytes) (meets : Meets bytes) w
     all_formed : AreFormed r.checkpoints
     all_formed k d lt = subst IsFormed (sym (checkpoint_is K k d (inside k lt))) (formed k (inside k lt))
 
-    writes : AreWritable r
+    writes : AreWritableWithDisk r
     writes = record {
       pool = all_pages;
       pages = omega (arith, pages_len, word_fits bytes PAGES_AT are_bytes);
       events = omega (arith, word_fits bytes EVENTS_AT are_bytes);
       few = omega (arith, length-checkpoints_at K, word_fits bytes CHECKPOINTS_AT are_bytes);
-      checkpoints = λ k d lt. subst IsWritable (sym (checkpoint_is K k d (inside k lt))) (fits k (inside k lt));
+      checkpoints = λ k d lt. subst IsWritableWithDisk (sym (checkpoint_is K k d (inside k lt))) (fits k (inside k lt));
     }
 
     start_back : (k : ℕ) → k ≤ K → start_in (version bytes) r k ≡ start bytes k
@@ -351,13 +379,32 @@ module _ (bytes : List ℕ) (are_bytes : AreBytes bytes) (meets : Meets bytes) w
               (output_all bytes K (output_offset bytes + output_below bytes K) (checkpoints_at bytes K) meets refl refl (outputs K (omega arith)));
         }
 
-    pub decoded_is : IsLawful r × Text bytes r
+    pub decoded_is : IsLawfulWithDisk r × TextWithDisk bytes r
     decoded_is =
         let v = version bytes in let known = meets.sized.known in
         let is = parts_encoding v r all_pages all_formed bytes are_at in
         let all_unclocked : v ≡ FIRST_VERSION → All HasStillTimer r.checkpoints = λ first k d lt.
         subst HasStillTimer (sym (checkpoint_is K k d (inside k lt))) (still k (inside k lt) first) in
-        let faultless = sym (encoding_agrees v r known all_unclocked writes) ∙ ap first_fault_of (sym is) ∙ meets.faultless in
-        let unanswered : All IsUnanswered r.checkpoints = λ k d lt. subst IsUnanswered (sym (checkpoint_is K k d (inside k lt))) refl in
-        let lawful = faultless_lawful v r known all_pages (events_ordered bytes inputs meets count each_event) all_formed unanswered faultless in
-        (lawful, record { version = v; is = record { lawful = lawful; known = known; still = all_unclocked; is = is } })
+        let faultless = sym (encoding_agrees v r known all_unclocked writes) ∙ ap first_fault_with_disk (sym is) ∙ meets.faultless in
+        let lawful = faultless_lawful v r known all_pages (events_ordered bytes inputs meets count each_event) all_formed faultless in
+        let none_of_disk : (v == VERSION_WITH_DISK) ≡ false → All (λ e. ¬ (IsOfDisk e)) inputs = λ other i d lt of_disk.
+        (let one = each_holds (event_rules (fields_of bytes)) (events bytes) i (subst (λ (n : ℕ). i < n) count lt) meets.events_meet in
+        let kind = and_right _ _ (none_hold (event_rules (fields_of bytes) i) one).0 in
+        no_disk v (word_at bytes (event_offset bytes i + KIND_AT)) other kind ((each_event i d lt).kind ∙ of_disk)) in
+        let quiet : (v == VERSION_WITH_DISK) ≡ false → All IsUnanswered r.checkpoints = λ other k d lt.
+        subst IsUnanswered (sym (checkpoint_is K k d (inside k lt))) (rw other refl) in
+        let few : (v == VERSION_WITH_DISK) ≡ false → length inputs ≤ MAX_EVENTS = λ other.
+        few_events v (length inputs) other
+        (subst (λ (n : ℕ). n ≤ max_events v) (sym count) (header_within (fields_of bytes) (met_parts (fields_of bytes) meets.faultless).header).events) in (
+          lawful,
+          record {
+            version = v;
+            is = record {
+              lawful = lawful;
+              known = known;
+              still = all_unclocked;
+              plain = λ other. record { few = few other; unanswered = record { inputs = none_of_disk other; checkpoints = quiet other } };
+              is = is;
+            };
+          },
+        )

@@ -1,9 +1,9 @@
 -- The parts of an encoding at their offsets.
-use Rattle.oberon_format.proofs.Common.{[], All-from_recursion, ap, AreFormed, ArePages, AreWritable, arith, Bool, cases_lt, Change, change_bytes, CHANGE_LEN, changes, CHANGES_AT, changes_in, checkpoint_at, checkpoint_bytes, CHECKPOINT_LEN, checkpoint_len, CheckpointParts, checkpoints_bytes, common_bytes, COMMON_LEN, cond, DeviceState, drop, drop_at, EachAt, encoding, Event, event_bytes, EVENT_LEN, event_start, false, field_words, FIRST_VERSION, flat_map, get_or, get_or_default, header_bytes, HEADER_LEN, inl, inr, is_phase, is_version, IsFormed, IsLawful, IsPhase, IsTable, IsWritable, key_bytes, tail_words, length, length-append, length-replicate, List, MAGIC, MAX_KEYS, mouse_word_fits, nat_tests, no_change, no_checkpoint, output_of, PAGE_LEN, page_offset, RecordingParts, refl, start_in, subst, suc, sym, table_before, tail_bytes, take, take-append-drop, IsEncoding, true, VERSION, words_bytes, zero, ℕ, ◌*◌, ◌++◌, ◌+◌, ◌<◌, ◌==◌, ◌^◌, ◌∙◌, ◌∷◌, ◌≡◌, ◌≤◌}
+use Rattle.oberon_format.proofs.Common.{[], All-from_recursion, ap, AreFormed, ArePages, AreWritableWithDisk, arith, Bool, cases_lt, Change, change_bytes, CHANGE_LEN, changes, CHANGES_AT, changes_in, checkpoint_at, checkpoint_bytes, CHECKPOINT_LEN, checkpoint_len, CheckpointParts, checkpoints_bytes, common_bytes, COMMON_LEN, cond, DeviceState, drop, drop_at, EachAt, encoding, Event, event_bytes, EVENT_LEN, event_start, false, field_words, FIRST_VERSION, flat_map, get_or, get_or_default, header_bytes, HEADER_LEN, inl, inr, is_phase, is_version_with_disk, IsFormed, IsLawfulWithDisk, IsPhase, IsTable, IsWritableWithDisk, key_bytes, tail_words, length, length-append, length-replicate, List, MAGIC, MAX_KEYS, mouse_word_fits, nat_tests, no_change, no_checkpoint, output_of, PAGE_LEN, page_offset, RecordingParts, refl, start_in, subst, suc, sym, table_before, tail_bytes, take, take-append-drop, IsEncoding, true, VERSION_WITH_DISK, words_bytes, zero, ℕ, ◌*◌, ◌++◌, ◌+◌, ◌<◌, ◌==◌, ◌^◌, ◌∙◌, ◌∷◌, ◌≡◌, ◌≤◌, disk_words, disk_len, DISK_LEN, IsPlain}
 use Rattle.oberon_format.proofs.Bytes.{AreWide, HasBytes, HaveLength, bytes_whole, bytes_join, bytes_left, bytes_right, length-long_bytes, length-parts, length-word_bytes, length-words_bytes, parts_back, parts_read}
 use Rattle.oberon_format.proofs.ChangeLemmas.{change_in, changes-lawful, changes-new}
 use Rattle.oberon_format.proofs.LawfulLemmas.{flags_fit, lawful_formed, serial_fits}
-use Rattle.oberon_format.proofs.RuleLemmas.{version_cases}
+use Rattle.oberon_format.proofs.RuleLemmas.{version_small}
 use Rattle.oberon_format.proofs.WriteLemmas.{sent_le}
 
 -- the lengths of the parts
@@ -31,17 +31,24 @@ length-common_bytes c formed =
     let registers = formed.registers in let few = formed.devices.keys in
     simp (length-append, length-long_bytes, length-word_bytes, length-words_bytes, length-replicate) (omega arith)
 
+pub length-disk_words : (v : ℕ) (d : DeviceState) → length (words_bytes (disk_words v d)) ≡ disk_len v
+length-disk_words v d = go (v == VERSION_WITH_DISK) where
+  go : (b : Bool) → length (words_bytes (cond b (d.disk ∷ []) [])) ≡ cond b DISK_LEN 0
+  go true = length-words_bytes (d.disk ∷ [])
+  go false = refl
+
 pub length-checkpoint_bytes : (v : ℕ) (before : List ℕ) (c : CheckpointParts) → IsFormed c → length (checkpoint_bytes v before c) ≡ checkpoint_len v (changes_in v before c)
 unfolding checkpoint_bytes tail_bytes
 length-checkpoint_bytes v before c formed = go (v == FIRST_VERSION) where
-  go : (b : Bool) → length (common_bytes c ++ cond b (words_bytes c.table) (words_bytes (tail_words before c) ++ flat_map change_bytes (changes before c.table)))
-      ≡ cond b CHECKPOINT_LEN (CHANGES_AT + CHANGE_LEN * cond b 0 (length (changes before c.table)))
+  go : (b : Bool) → length (common_bytes c ++ cond b (words_bytes c.table) (words_bytes (tail_words before c) ++ flat_map change_bytes (changes before c.table) ++ words_bytes (disk_words v c.devices)))
+      ≡ cond b CHECKPOINT_LEN (CHANGES_AT + CHANGE_LEN * cond b 0 (length (changes before c.table)) + disk_len v)
   go true =
       let front = length-common_bytes c formed in let table = formed.table.count in
       simp (length-append, length-words_bytes) (omega arith)
   go false =
       let front = length-common_bytes c formed in
       let all = length-parts change_bytes CHANGE_LEN (changes before c.table) (length-changes (changes before c.table)) in
+      let last = length-disk_words v c.devices in
       simp (length-append, length-word_bytes) (omega arith)
 
 -- checkpoint k of parts
@@ -156,13 +163,13 @@ unfolding is_phase
 phase_fits rate phase small fits = grind (arith, nat_tests)
 
 -- the words of a checkpoint whose numbers fit
-pub fields_wide : (c : CheckpointParts) → IsWritable c → AreWide (field_words c)
+pub fields_wide : (c : CheckpointParts) → IsWritableWithDisk c → AreWide (field_words c)
 fields_wide c fits =
     let devices = fits.formed.devices in
     All-from_recursion (λ x. x < 2 ^ 32) (field_words c)
     (omega (arith, fits, devices, flags_fit c.cpu, mouse_word_fits c.devices.mouse devices.mouse, serial_fits c.devices devices))
 
-pub later_wide : (before : List ℕ) (c : CheckpointParts) → IsWritable c → length (changes before c.table) < 2 ^ 32 → AreWide (tail_words before c)
+pub later_wide : (before : List ℕ) (c : CheckpointParts) → IsWritableWithDisk c → length (changes before c.table) < 2 ^ 32 → AreWide (tail_words before c)
 later_wide before c fits few =
     let devices = fits.formed.devices in
     All-from_recursion (λ x. x < 2 ^ 32) (tail_words before c) (omega (arith, devices, phase_fits c.devices.rate c.devices.phase devices.rate devices.phase, few))
@@ -170,9 +177,9 @@ later_wide before c fits few =
 abbrev pub header_words : ℕ → RecordingParts → List ℕ
 header_words v r = MAGIC ∷ v ∷ length r.pool ∷ length r.inputs ∷ length r.checkpoints ∷ 0 ∷ []
 
-pub header_wide : (v : ℕ) (r : RecordingParts) → is_version v ≡ true → AreWritable r → AreWide (header_words v r)
+pub header_wide : (v : ℕ) (r : RecordingParts) → is_version_with_disk v ≡ true → AreWritableWithDisk r → AreWide (header_words v r)
 header_wide v r known fits =
-    let small : v < 2 ^ 32 = elim (version_cases v known) [ inl first ↦ omega arith | inr second ↦ omega arith ] in
+    let small = version_small v known in
     All-from_recursion (λ x. x < 2 ^ 32) (header_words v r) (omega (arith, small, fits))
 
 abbrev pub change_words : Change → List ℕ
@@ -187,7 +194,7 @@ change_wide before table fits i d lt =
     (All-from_recursion (λ x. x < 2 ^ 32) (change_words change) (omega (arith, inside, small, changes-new before table i lt)))
 
 -- the numbers of a lawful recording fit
-pub writable : (r : RecordingParts) → IsLawful r → AreWritable r
+pub writable : (r : RecordingParts) → IsLawfulWithDisk r → AreWritableWithDisk r
 writable r p = record {
   pool = p.pool;
   pages = omega (arith, p.pages);
@@ -195,20 +202,26 @@ writable r p = record {
   few = omega (arith, p.few);
   checkpoints = λ i d h.
       let fit = p.fit i h in
-      let here : IsWritable (checkpoint_at r i) = record {
+      let here : IsWritableWithDisk (checkpoint_at r i) = record {
         formed = lawful_formed r p i no_checkpoint h;
         count = omega (arith, fit.bounded);
         counter = omega (arith, fit.cpu.counter);
         stop = omega (arith, fit.cpu.stops);
         sent = omega (arith, sent_le r.checkpoints i no_checkpoint h, p.output);
-        unanswered = p.unanswered.checkpoints i no_checkpoint h;
       } in
-      subst IsWritable (get_or_default r.checkpoints i no_checkpoint d h) here;
+      subst IsWritableWithDisk (get_or_default r.checkpoints i no_checkpoint d h) here;
 }
 
--- a lawful recording has an encoding in the current version
-pub encoded : (r : RecordingParts) → IsLawful r → IsEncoding VERSION (encoding VERSION r) r
-encoded r lawful = record { lawful = lawful; known = refl; still = λ first. absurd (omega arith); is = refl }
+-- a lawful recording has an encoding in each version after the first that has a field for all that it has
+pub encoded : (v : ℕ) (r : RecordingParts) → is_version_with_disk v ≡ true → (v == FIRST_VERSION) ≡ false → IsLawfulWithDisk r
+    → ((v == VERSION_WITH_DISK) ≡ false → IsPlain r) → IsEncoding v (encoding v r) r
+encoded v r known later lawful plain = record {
+  lawful = lawful;
+  known = known;
+  still = λ first. absurd (grind (arith, nat_tests));
+  plain = plain;
+  is = refl;
+}
 
 -- the parts of a file's recording are in it
 pub encoded_parts : (v : ℕ) (bytes : List ℕ) (r : RecordingParts) → IsEncoding v bytes r → AreAt v bytes r

@@ -1,5 +1,5 @@
 -- Worked examples of the definitions: each computes to the value that the format asks for.
-use Rattle.oberon_format.proofs.Common.{[], are_keys, Change, change_bytes, change_offset, change_rules, changes_below, checkpoint_fields, checkpoint_rules, checkpoint_len, CheckpointParts, common_bytes, COMMON_LEN, PC_AT, each, end_rules, event_start, false, fault_of_parts, Fields, fields_in, first_broken, first_fault_of, header_bytes, is_count, is_event, is_output, is_phase, length, List, long_at, long_bytes, LONGEST_RECORDING, MAGIC, map, no_checkpoint, None, page_id_after, page_id_before, page_id_offset, page_id_rules, refl, replicate, slice_index, Some, start, start_in, suc, take, total, true, VERSION, word_at, word_bytes, words_bytes, zero, zero_numbers, ℕ, ◌*◌, ◌++◌, ◌+◌, ◌^◌, ◌∷◌, ◌≡◌}
+use Rattle.oberon_format.proofs.Common.{[], are_keys, Change, change_bytes, change_offset, change_rules, changes_below, checkpoint_fields, checkpoint_rules, checkpoint_len, CheckpointParts, common_bytes, COMMON_LEN, PC_AT, each, end_rules, event_start, false, fault_of_parts_with_disk, Fields, fields_in, first_broken, first_fault_with_disk, header_bytes, is_count, is_event, is_output, is_phase, length, List, long_at, long_bytes, LONGEST_WITH_DISK, MAGIC, map, no_checkpoint, None, page_id_after, page_id_before, page_id_offset, page_id_rules, refl, replicate, slice_index, Some, start, start_in, suc, take, total, true, VERSION_WITH_DISK, word_at, word_bytes, words_bytes, zero, zero_numbers, ℕ, ◌*◌, ◌++◌, ◌+◌, ◌^◌, ◌∷◌, ◌≡◌, EventFields}
 use Rattle.oberon_format.specs.Rules.{rules}
 use Rattle.risc_devices.specs.Input as input
 use Rattle.oberon_format.specs.declared.fault.Fault.TheVariants as fault
@@ -14,7 +14,7 @@ header version pages events checkpoints last = words_bytes (MAGIC ∷ version �
 
 -- first faults of headers: nothing, zeros, version 9, 65,537 pages, 1,000,001 events, no checkpoint, another last number, and a
 -- header alone
-faults-of-headers : Answers first_fault_of (
+faults-of-headers : Answers first_fault_with_disk (
     ([], Some (fault.Short 0))
     ∷ (replicate 24 0, Some (fault.Magic 0))
     ∷ (header 9 0 0 1 0, Some (fault.Version 4))
@@ -28,13 +28,13 @@ unfolding rules word_at start each total checkpoint_rules word_bytes
 faults-of-headers = refl
 
 -- in version 1 one checkpoint and nothing else take 4,252 bytes: they are cut, or the checkpoint is at count 1
-faults-of-version-one : Answers (λ body. first_fault_of (header 1 0 0 1 0 ++ body)) (
+faults-of-version-one : Answers (λ body. first_fault_with_disk (header 1 0 0 1 0 ++ body)) (
     (replicate 4227 0, Some (fault.Short 4251)) ∷ (1 ∷ replicate 4227 0, Some (fault.Checkpoint 24)) ∷ [])
 unfolding rules word_at long_at start each total checkpoint_rules word_bytes
 faults-of-version-one = refl
 
 -- in version 2 they take 168 if no slot of the table is changed: they are cut, whole, or followed by a byte
-faults-of-version-two : Answers (λ n. first_fault_of (header 2 0 0 1 0 ++ replicate n 0)) ((143, Some (fault.Short 167)) ∷ (144, None) ∷ (145, Some (fault.Trailing 168)) ∷ [])
+faults-of-version-two : Answers (λ n. first_fault_with_disk (header 2 0 0 1 0 ++ replicate n 0)) ((143, Some (fault.Short 167)) ∷ (144, None) ∷ (145, Some (fault.Trailing 168)) ∷ [])
 unfolding rules word_at long_at start each total checkpoint_rules is_phase input.is_mouse word_bytes
 faults-of-version-two = refl
 
@@ -45,7 +45,7 @@ with_changes words = header 2 0 0 1 0 ++ replicate 132 0 ++ words_bytes words
 
 -- a phase at its rate, and one below it; 1,025 changes, and one that is cut; slot 0 is changed to page id 0, which was there, and
 -- to page id 1, which has no page
-faults-of-changes : Answers (λ words. first_fault_of (with_changes words)) (
+faults-of-changes : Answers (λ words. first_fault_with_disk (with_changes words)) (
     (10 ∷ 10 ∷ 0 ∷ [], Some (fault.Checkpoint 24))
     ∷ (10 ∷ 1 ∷ 0 ∷ [], None)
     ∷ (0 ∷ 0 ∷ 1025 ∷ [], Some (fault.Checkpoint 24))
@@ -106,7 +106,7 @@ unfolding changes_below
 changes-between = refl
 
 -- parts without a checkpoint, and with a first one at count 7
-faults-of-parts : Answers (λ checkpoints. fault_of_parts (record { pool = []; inputs = []; checkpoints = checkpoints })) (
+faults-of-parts : Answers (λ checkpoints. fault_of_parts_with_disk (record { pool = []; inputs = []; checkpoints = checkpoints })) (
     ([], Some (fault.Limit 16)) ∷ (record no_checkpoint { count = 7; table = replicate 1024 0 } ∷ [], Some (fault.Checkpoint 24)) ∷ [])
 unfolding rules start_in each total checkpoint_rules changes_below zero_numbers is_phase
 faults-of-parts = refl
@@ -119,13 +119,17 @@ counts = refl
 outputs : Answers (λ (x : ℕ × ℕ × ℕ). is_output x.0 x.1 x.2) (((0, 0, 1), false) ∷ ((2, 1048575, 1), true) ∷ ((2, 1048575, 2), false) ∷ [])
 outputs = refl
 
--- events after one at 5: at the same count, at a lower one, with switches that are too high, and of a kind that there is not
-events : Answers (is_event 5) (
-    (record { count = 5; kind = 1; value = 0xFFFFFFFF }, true)
-    ∷ (record { count = 4; kind = 1; value = 0 }, false)
-    ∷ (record { count = 5; kind = 2; value = 4096 }, false)
-    ∷ (record { count = 5; kind = 6; value = 0 }, false) ∷ [])
-unfolding input.is_input
+-- events after one at 5: at the same count, at a lower one, with switches that are too high, of a kind that there is not, and of the
+-- disk, which version 3 alone has
+events : Answers (λ (x : ℕ × EventFields). is_event x.0 5 x.1) (
+    ((1, record { count = 5; kind = 1; value = 0xFFFFFFFF }), true)
+    ∷ ((1, record { count = 4; kind = 1; value = 0 }), false)
+    ∷ ((2, record { count = 5; kind = 2; value = 4096 }), false)
+    ∷ ((3, record { count = 5; kind = 7; value = 0 }), false)
+    ∷ ((1, record { count = 5; kind = 6; value = 0 }), false)
+    ∷ ((2, record { count = 5; kind = 6; value = 0 }), false)
+    ∷ ((3, record { count = 5; kind = 6; value = 0xFFFFFFFF }), true) ∷ [])
+unfolding input.is_input_with_disk input.is_input
 events = refl
 
 sixteen-keys : are_keys (record (checkpoint_fields 1 [] no_checkpoint) { waiting = 16; keys = replicate 16 1 }) ≡ true
@@ -138,15 +142,16 @@ offsets : Answers (λ (x : ℕ). x) (
     ∷ (page_id_offset 5276 0, 5408)
     ∷ (event_start 1 0 + checkpoint_len 2 3, 1216)
     ∷ (change_offset 1048 1, 1200)
-    ∷ (event_start 65536 1000000 + checkpoint_len 2 1024 * 4097 + 1048576, LONGEST_RECORDING) ∷ [])
+    ∷ (event_start 1 0 + checkpoint_len 3 3, 1220)
+    ∷ (event_start 65536 4000000 + checkpoint_len 3 1024 * 4097 + 1048576, LONGEST_WITH_DISK) ∷ [])
 offsets = refl
 
--- the bytes of a number, of a count, of the header of a file of version 2 with no page, no event and one checkpoint (it begins with
+-- the bytes of a number, of a count, of the header of a file of version 3 with no page, no event and one checkpoint (it begins with
 -- the letters ORSR), and of a change that gives slot 0 page id 1
 bytes : Answers (λ (x : List ℕ). x) (
     (word_bytes 0x40000005, 5 ∷ 0 ∷ 0 ∷ 0x40 ∷ [])
     ∷ (long_bytes 100, 100 ∷ 0 ∷ 0 ∷ 0 ∷ 0 ∷ 0 ∷ 0 ∷ 0 ∷ [])
-    ∷ (header_bytes VERSION (record { pool = []; inputs = []; checkpoints = no_checkpoint ∷ [] }), 0x4F ∷ 0x52 ∷ 0x53 ∷ 0x52 ∷ 2 ∷ 0 ∷ 0 ∷ 0 ∷ 0 ∷ 0 ∷ 0 ∷ 0 ∷ 0 ∷ 0 ∷ 0 ∷ 0 ∷ 1 ∷ 0 ∷ 0 ∷ 0 ∷ 0 ∷ 0 ∷ 0 ∷ 0 ∷ [])
+    ∷ (header_bytes VERSION_WITH_DISK (record { pool = []; inputs = []; checkpoints = no_checkpoint ∷ [] }), 0x4F ∷ 0x52 ∷ 0x53 ∷ 0x52 ∷ 3 ∷ 0 ∷ 0 ∷ 0 ∷ 0 ∷ 0 ∷ 0 ∷ 0 ∷ 0 ∷ 0 ∷ 0 ∷ 0 ∷ 1 ∷ 0 ∷ 0 ∷ 0 ∷ 0 ∷ 0 ∷ 0 ∷ 0 ∷ [])
     ∷ (change_bytes (record { slot = 0; page_id = 1 }), 0 ∷ 0 ∷ 0 ∷ 0 ∷ 1 ∷ 0 ∷ 0 ∷ 0 ∷ []) ∷ [])
 unfolding header_bytes word_bytes long_bytes change_bytes
 bytes = refl

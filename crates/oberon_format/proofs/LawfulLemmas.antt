@@ -1,10 +1,10 @@
--- Parts are lawful if and only if the file that encodes them has no fault, in either version.
-use Rattle.oberon_format.proofs.Common.{add-one, All, answer_rules, ap, are_keys, AreFormed, AreOrdered, ArePages, arith, before_count, Bool, changes, CHANGES_AT, changes_in, checkpoint_at, checkpoint_fields, checkpoint_rules, CheckpointParts, count_before, COUNTER_END, CpuState, DeviceState, DISK, drop_at, each, eq-eqb, eqb, Event, event_fields, event_floor, event_rules, false, Fault, fault_of_parts, Fields, fields_in, first_broken, FLAGS_END, flags_number, get_or, get_or_default, HasNoAnswers, HEADER_LEN, header_rules, IfNone, if◌then◌else◌, in_ranges, inl, input_without_disk, inr, is_change, is_checkpoint, is_count, is_input, is_output, is_version, IsDeviceState, IsFormed, IsLawful, IsOfDisk, IsUnanswered, LAST_AT, le-leb, length, limit_rules, List, list_all, lt-ltb, MAGIC, MAGIC_AT, map, MAX_CHECKPOINTS, MAX_COUNT, MAX_EVENTS, MAX_KEYS, MAX_PAGES, MAX_STOP, named_len, nat_le, nat_lt, nat_tests, ne_eqb, nil_from_length, no_checkpoint, no_event, None, number_below, offset_of_event, Option, option_or, output_of, PAGE_SLOTS, prior_page_id, RecordingParts, refl, replicate, Rule, sent_below, SERIAL_END, serial_number, slice_index, slot_floor, Some, start_in, subst, suc, sym, table_before, total, true, UNANSWERED, VERSION, VERSION_AT, zero, zero_number, [], ℕ, ◌&&◌, ◌++◌, ◌+◌, ◌-◌, ◌<◌, ◌==◌, ◌∙◌, ◌∷◌, ◌≡◌, ◌≤◌}
+-- Parts are lawful if and only if the file that encodes them has no fault, in each version.
+use Rattle.oberon_format.proofs.Common.{[], add-one, ap, are_keys, AreFormed, AreOrdered, ArePages, arith, before_count, Bool, changes, changes_in, checkpoint_at, checkpoint_fields, checkpoint_rules, CheckpointParts, count_before, COUNTER_END, CpuState, DeviceState, drop_at, each, eq-eqb, eqb, Event, event_fields, event_floor, event_rules, Fault, Fields, fields_in, first_broken, FLAGS_END, flags_number, get_or, get_or_default, HEADER_LEN, header_rules, IfNone, if◌then◌else◌, in_ranges, inl, inr, is_change, is_checkpoint, is_count, is_input_with_disk, is_output, is_version_with_disk, IsDeviceState, IsFormed, IsLawfulWithDisk, LAST_AT, le-leb, length, limit_rules, List, list_all, lt-ltb, MAGIC, MAGIC_AT, map, MAX_CHECKPOINTS, MAX_COUNT, MAX_KEYS, MAX_PAGES, MAX_STOP, named_len, nat_le, nat_lt, nat_tests, nil_from_length, no_checkpoint, no_event, None, number_below, Option, option_or, output_of, slot_floor, PAGE_SLOTS, prior_page_id, RecordingParts, refl, replicate, Rule, sent_below, SERIAL_END, serial_number, slice_index, Some, start_in, subst, suc, sym, table_before, total, true, VERSION_WITH_DISK, VERSION_AT, zero, zero_number, ℕ, ◌&&◌, ◌++◌, ◌+◌, ◌-◌, ◌<◌, ◌==◌, ◌∙◌, ◌∷◌, ◌≡◌, ◌≤◌, max_events, FIRST_VERSION, false, has_kind, kind_of, DISK, IsOfDisk, IsPlain, All, ne_eqb, answer_rules, fault_in, IsUnanswered, UNANSWERED, MAX_EVENTS, offset_of_event, ◌||◌}
 use Rattle.oberon_format.specs.Recording.{count_at}
 use Rattle.oberon_format.specs.Rules.{rules}
 use Rattle.oberon_format.proofs.ChangeLemmas.{change_in, after-bounded, changes-lawful, changes-make, changes-new}
 use Rattle.oberon_format.proofs.PartLemmas.{member, event_here, sent_all, prior_encoded, table_next, total_rises, changes_in_few, start_in_first, start_in_rises, changed_room, ends_met, before_next}
-use Rattle.oberon_format.proofs.RuleLemmas.{fields_hold, AreMet, met_left, met_right, met_parts, parts_met, each_holds, each_all, version_cases, ChangedMet, whole_met, whole_meets, changed_met, changed_meets, hold_none, first_append, rules_first, met-append, in_order}
+use Rattle.oberon_format.proofs.RuleLemmas.{fields_hold, AreMet, met_parts, parts_met, each_holds, each_all, version_cases, ChangedMet, whole_met, whole_meets, changed_met, changed_meets, hold_none, first_append, rules_first, met-append, in_order, events_most, met_left, met_right}
 use Rattle.oberon_format.proofs.Walk.{change_named, change_same, number_tested}
 use Rattle.oberon_format.specs.declared.fault.Fault.TheVariants as fault
 
@@ -39,11 +39,11 @@ ranges_met v before c formed pc stop =
 -- what the header's rules say of the numbers
 pub record IsWithin (f : Fields) : Type 0 where
   pub pages : f.pages ≤ MAX_PAGES
-  pub events : f.events ≤ MAX_EVENTS
+  pub events : f.events ≤ max_events f.version
   pub some : 1 ≤ f.checkpoints
   pub few : f.checkpoints ≤ MAX_CHECKPOINTS
 
-header_within : (f : Fields) → first_broken (header_rules f) ≡ None → IsWithin f
+pub header_within : (f : Fields) → first_broken (header_rules f) ≡ None → IsWithin f
 header_within f h = record {
   pages = grind (arith, nat_tests);
   events = grind (arith, nat_tests);
@@ -60,20 +60,20 @@ or_none None = refl
 or_none (Some f) = refl
 
 -- the header of parts has the fault of its limits
-pub parts_limits : (v : ℕ) (r : RecordingParts) → is_version v ≡ true
-    → first_broken (header_rules (fields_in v r)) ≡ first_broken (limit_rules (length r.pool) (length r.inputs) (length r.checkpoints))
+pub parts_limits : (v : ℕ) (r : RecordingParts) → is_version_with_disk v ≡ true
+    → first_broken (header_rules (fields_in v r)) ≡ first_broken (limit_rules v (length r.pool) (length r.inputs) (length r.checkpoints))
 parts_limits v r known =
     let f = fields_in v r in
     let long : HEADER_LEN ≤ f.long = omega (arith, start_in_rises v r 0 (length r.checkpoints) (omega arith), start_in_first v r) in
-    let front : List (Rule Fault) = (nat_le HEADER_LEN f.long, fault.Short f.long) ∷ (f.first == MAGIC, fault.Magic MAGIC_AT) ∷ (is_version v, fault.Version VERSION_AT) ∷ [] in
-    let limits = limit_rules (length r.pool) (length r.inputs) (length r.checkpoints) in
+    let front : List (Rule Fault) = (nat_le HEADER_LEN f.long, fault.Short f.long) ∷ (f.first == MAGIC, fault.Magic MAGIC_AT) ∷ (is_version_with_disk v, fault.Version VERSION_AT) ∷ [] in
+    let limits = limit_rules v (length r.pool) (length r.inputs) (length r.checkpoints) in
     let back : List (Rule Fault) = (f.last == 0, fault.Limit LAST_AT) ∷ (nat_le (named_len f) f.long, fault.Short f.long) ∷ [] in
     met-append front (limits ++ back) (hold_none front (le-leb _ _ long, (refl, (known, tt)))) ∙ first_append limits back
     ∙ ap (option_or (first_broken limits)) (hold_none back (refl, (le-leb _ _ (named_there v r), tt))) ∙ or_none (first_broken limits)
 
-parts_header : (v : ℕ) (r : RecordingParts) → is_version v ≡ true → IsWithin (fields_in v r) → first_broken (header_rules (fields_in v r)) ≡ None
+parts_header : (v : ℕ) (r : RecordingParts) → is_version_with_disk v ≡ true → IsWithin (fields_in v r) → first_broken (header_rules (fields_in v r)) ≡ None
 parts_header v r known within =
-    let met : first_broken (limit_rules (length r.pool) (length r.inputs) (length r.checkpoints)) ≡ None = grind (arith, nat_tests) in
+    let met : first_broken (limit_rules v (length r.pool) (length r.inputs) (length r.checkpoints)) ≡ None = grind (arith, nat_tests) in
     parts_limits v r known ∙ met
 
 -- what the tests of counts and of output say
@@ -89,8 +89,8 @@ bounded_count k before count h = grind (arith, nat_tests)
 first_output : (sent own : ℕ) → is_output 0 sent own ≡ true → own ≡ 0
 first_output sent own h = grind (arith, nat_tests)
 
--- the page ids of a table of version 2 are those before, or those of lawful changes
-changed_numbers : (v : ℕ) (r : RecordingParts) (k p : ℕ) → v ≡ VERSION → ChangedMet (fields_in v r) k → p < PAGE_SLOTS
+-- the page ids of a table of version 2 or 3 are those before, or those of lawful changes
+changed_numbers : (v : ℕ) (r : RecordingParts) (k p : ℕ) → (v == FIRST_VERSION) ≡ false → ChangedMet (fields_in v r) k → p < PAGE_SLOTS
     → slice_index (table_before r.checkpoints k) p ≤ length r.pool → slice_index (checkpoint_at r k).table p ≤ length r.pool
 changed_numbers v r k p later met lt old =
     let before = table_before r.checkpoints k in
@@ -102,7 +102,7 @@ changed_numbers v r k p later met lt old =
     (after-bounded (change_in before table) (slice_index before) (length (changes before table)) p (length r.pool) new old)
 
 -- so the page ids of all tables name pages
-before_named : (v : ℕ) (r : RecordingParts) (k p : ℕ) → is_version v ≡ true → first_broken (each (length r.checkpoints) (checkpoint_rules (fields_in v r))) ≡ None
+before_named : (v : ℕ) (r : RecordingParts) (k p : ℕ) → is_version_with_disk v ≡ true → first_broken (each (length r.checkpoints) (checkpoint_rules (fields_in v r))) ≡ None
     → k ≤ length r.checkpoints → p < PAGE_SLOTS → slice_index (table_before r.checkpoints k) p ≤ length r.pool
 before_named v r zero p known met le lt = omega (arith, zero_number p)
 before_named v r (suc k) p known met le lt =
@@ -113,37 +113,10 @@ before_named v r (suc k) p known met le lt =
       | inr later ↦ changed_numbers v r k p later (changed_met f k later here) lt (before_named v r k p known met (omega arith) lt)
     ])
 
--- no input of a disk is an event of a file
-disk_input : (value : ℕ) → is_input DISK value ≡ false
-unfolding is_input
-disk_input value = refl
-
-and_false : (a b : Bool) → b ≡ false → (a && b) ≡ false
-and_false true b h = h
-and_false false b h = refl
-
-pub event_unmet : (v : ℕ) (r : RecordingParts) (i : ℕ) (d : Event) → i < length r.inputs → IsOfDisk (get_or r.inputs i d)
-    → first_broken (event_rules (fields_in v r) i) ≡ Some (fault.Event (offset_of_event (fields_in v r) i))
-event_unmet v r i d lt is =
-    let f = fields_in v r in let e = get_or r.inputs i d in
-    let none : is_input (f.event i).kind (f.event i).value ≡ false =
-    ap (λ x. is_input x.kind x.value) (event_here v r i d lt) ∙ ap (λ (kind : ℕ). is_input kind (event_fields e).value) is ∙ disk_input (event_fields e).value in
-    let wrong = and_false (nat_le (event_floor f i) (f.event i).count && nat_le (f.event i).count MAX_COUNT) _ none in
-    rw wrong refl
-
-no_answers : (v : ℕ) (r : RecordingParts) → All IsUnanswered r.checkpoints → first_broken (each (length r.inputs) (event_rules (fields_in v r))) ≡ None → HasNoAnswers r
-no_answers v r unanswered met = record {
-  inputs = λ i d lt is.
-      let here = each_holds (event_rules (fields_in v r)) (length r.inputs) i lt met in
-      let wrong = event_unmet v r i d lt is in
-      absurd cc;
-  checkpoints = unanswered;
-}
-
-met_lawful : (v : ℕ) (r : RecordingParts) → is_version v ≡ true → ArePages r.pool → AreOrdered r.inputs → AreFormed r.checkpoints → All IsUnanswered r.checkpoints
-    → AreMet (fields_in v r) → IsLawful r
+met_lawful : (v : ℕ) (r : RecordingParts) → is_version_with_disk v ≡ true → ArePages r.pool → AreOrdered r.inputs → AreFormed r.checkpoints
+    → AreMet (fields_in v r) → IsLawfulWithDisk r
 unfolding total
-met_lawful v r known pages ordered formed unanswered met =
+met_lawful v r known pages ordered formed met =
     let f = fields_in v r in let n = length r.checkpoints in let within = header_within f met.header in let some = within.some in
     let each_met = λ (k : ℕ) (lt : k < n). fields_hold f k (each_holds (checkpoint_rules f) n k lt met.checkpoints) in
     let zero_met = each_met 0 (omega arith) in let last = n - 1 in let bound = (each_met last (omega arith)).within in
@@ -152,7 +125,7 @@ met_lawful v r known pages ordered formed unanswered met =
     record {
       pages = within.pages;
       pool = pages;
-      events = within.events;
+      events = let most = events_most v in omega (arith, within.events);
       ordered = ordered;
       some = omega arith;
       few = within.few;
@@ -174,7 +147,6 @@ met_lawful v r known pages ordered formed unanswered met =
                 subst (λ (x : ℕ). x ≤ length r.pool) (get_or_default (checkpoint_at r k).table j 0 d less) named;
             bytes = own.bytes;
           };
-      unanswered = no_answers v r unanswered met.events;
     }
 
 -- the counts of events, as fields and as inputs
@@ -183,23 +155,55 @@ event_count [] i = refl
 event_count (e ∷ es) zero = refl
 event_count (e ∷ es) (suc i) = event_count es i
 
-pub event_met : (v : ℕ) (r : RecordingParts) (i : ℕ) (d : Event) → AreOrdered r.inputs → i < length r.inputs → ¬ (IsOfDisk (get_or r.inputs i d))
+-- each kind of inputs is one of the version's
+kind_met : (v : ℕ) (e : Event) → ((v == VERSION_WITH_DISK) ≡ false → ¬ (IsOfDisk e)) → has_kind v (kind_of e.input) ≡ true
+kind_met v e other = go (v == VERSION_WITH_DISK) refl where
+  go : (b : Bool) → (v == VERSION_WITH_DISK) ≡ b → has_kind v (kind_of e.input) ≡ true
+  go true is = rw is refl
+  go false is = let no : (kind_of e.input == DISK) ≡ false = ne_eqb _ _ (other is) in rw (is, no) refl
+
+pub event_met : (v : ℕ) (r : RecordingParts) (i : ℕ) (d : Event) → AreOrdered r.inputs → i < length r.inputs → has_kind v (kind_of (get_or r.inputs i d).input) ≡ true
     → first_broken (event_rules (fields_in v r) i) ≡ None
-event_met v r i d ordered lt other =
+event_met v r i d ordered lt known =
     let f = fields_in v r in let right = ordered i lt in let count = event_count r.inputs i in
     let floor : event_floor f i ≡ before_count r.inputs i = ap (λ (n : ℕ). if i == 0 then 0 else n) (event_count r.inputs (i - 1)) in
     let e = get_or r.inputs i d in
-    let input : is_input (f.event i).kind (f.event i).value ≡ true = ap (λ x. is_input x.kind x.value) (event_here v r i d lt) ∙ input_without_disk _ _ other e.input.lawful in
+    let input : is_input_with_disk (f.event i).kind (f.event i).value ≡ true = ap (λ x. is_input_with_disk x.kind x.value) (event_here v r i d lt) ∙ e.input.lawful in
     let low : nat_le (event_floor f i) (f.event i).count ≡ true = le-leb _ _ (omega (arith, right.0)) in
     let high : nat_le (f.event i).count MAX_COUNT ≡ true = le-leb _ _ (omega (arith, right.1)) in
-    hold_none (event_rules f i) (both _ _ (both _ _ low high) input, tt)
+    let kind : has_kind v (f.event i).kind ≡ true = ap (λ x. has_kind v x.kind) (event_here v r i d lt) ∙ known in
+    hold_none (event_rules f i) (both _ _ (both _ _ (both _ _ low high) input) kind, tt)
 
--- all rules of the events of parts without answers are met
-events_met : (v : ℕ) (r : RecordingParts) → AreOrdered r.inputs → HasNoAnswers r → first_broken (each (length r.inputs) (event_rules (fields_in v r))) ≡ None
-events_met v r ordered none =
-    each_all (event_rules (fields_in v r)) (length r.inputs) (λ i lt. let d = member r.inputs i lt in event_met v r i d ordered lt (none.inputs i d lt))
+and_false : (a b : Bool) → b ≡ false → (a && b) ≡ false
+and_false true b h = h
+and_false false b h = refl
 
-count_met : (v : ℕ) (r : RecordingParts) (k : ℕ) → IsLawful r → k < length r.checkpoints → is_count k (count_before (fields_in v r) k) (count_at r k) ≡ true
+-- an input of another kind breaks the rule of its event
+pub event_unmet : (v : ℕ) (r : RecordingParts) (i : ℕ) (d : Event) → i < length r.inputs → has_kind v (kind_of (get_or r.inputs i d).input) ≡ false
+    → first_broken (event_rules (fields_in v r) i) ≡ Some (fault.Event (offset_of_event (fields_in v r) i))
+event_unmet v r i d lt other =
+    let f = fields_in v r in
+    let none : has_kind v (f.event i).kind ≡ false = ap (λ x. has_kind v x.kind) (event_here v r i d lt) ∙ other in
+    let wrong = and_false (nat_le (event_floor f i) (f.event i).count && nat_le (f.event i).count MAX_COUNT && is_input_with_disk (f.event i).kind (f.event i).value) _ none in
+    rw wrong refl
+
+-- all rules of the events of parts are met
+pub events_met : (v : ℕ) (r : RecordingParts) → AreOrdered r.inputs → ((v == VERSION_WITH_DISK) ≡ false → All (λ e. ¬ (IsOfDisk e)) r.inputs) → first_broken (each (length r.inputs) (event_rules (fields_in v r))) ≡ None
+events_met v r ordered others =
+    each_all (event_rules (fields_in v r)) (length r.inputs) (λ i lt. let d = member r.inputs i lt in event_met v r i d ordered lt (kind_met v (get_or r.inputs i d) (λ is. others is i d lt)))
+
+-- if they are, no input of parts in an earlier version is an answer
+no_kind : (v kind : ℕ) → (v == VERSION_WITH_DISK) ≡ false → kind ≡ DISK → has_kind v kind ≡ false
+no_kind v kind other is = let same : (kind == DISK) ≡ true = eq-eqb _ _ is in rw (other, same) refl
+
+met_events : (v : ℕ) (r : RecordingParts) → (v == VERSION_WITH_DISK) ≡ false → first_broken (each (length r.inputs) (event_rules (fields_in v r))) ≡ None
+    → All (λ e. ¬ (IsOfDisk e)) r.inputs
+met_events v r other met i d lt is =
+    let here = each_holds (event_rules (fields_in v r)) (length r.inputs) i lt met in
+    let wrong = event_unmet v r i d lt (no_kind v _ other is) in
+    absurd cc
+
+count_met : (v : ℕ) (r : RecordingParts) (k : ℕ) → IsLawfulWithDisk r → k < length r.checkpoints → is_count k (count_before (fields_in v r) k) (count_at r k) ≡ true
 count_met v r zero lawful lt = eq-eqb _ _ lawful.begins
 count_met v r (suc k) lawful lt =
     let before = before_next (fields_in v r) k in
@@ -207,7 +211,7 @@ count_met v r (suc k) lawful lt =
     let bounded = (lawful.fit (suc k) lt).bounded in
     grind (arith, nat_tests)
 
-output_met : (v : ℕ) (r : RecordingParts) (k : ℕ) → IsLawful r → k < length r.checkpoints
+output_met : (v : ℕ) (r : RecordingParts) (k : ℕ) → IsLawfulWithDisk r → k < length r.checkpoints
     → is_output k (sent_below (fields_in v r) k) (length (checkpoint_at r k).sent) ≡ true
 unfolding total
 output_met v r zero lawful lt = let own = ap (λ (l : List ℕ). length l) lawful.silent in grind (arith, nat_tests)
@@ -217,13 +221,13 @@ output_met v r (suc k) lawful lt =
     grind (arith, nat_tests)
 
 -- the page ids of a lawful recording
-numbers_met : (r : RecordingParts) (k p : ℕ) → IsLawful r → k < length r.checkpoints → p < PAGE_SLOTS → slice_index (checkpoint_at r k).table p ≤ length r.pool
+numbers_met : (r : RecordingParts) (k p : ℕ) → IsLawfulWithDisk r → k < length r.checkpoints → p < PAGE_SLOTS → slice_index (checkpoint_at r k).table p ≤ length r.pool
 numbers_met r k p lawful lt less =
     let fit = lawful.fit k lt in
     fit.named p 0 (subst (λ (m : ℕ). p < m) (sym fit.table.count) less)
 
 -- the changes of a lawful recording
-change_met : (v : ℕ) (r : RecordingParts) (k i : ℕ) → IsLawful r → k < length r.checkpoints
+change_met : (v : ℕ) (r : RecordingParts) (k i : ℕ) → IsLawfulWithDisk r → k < length r.checkpoints
     → i < length (changes (table_before r.checkpoints k) (checkpoint_at r k).table)
     → is_change (length r.pool) (slot_floor (change_in (table_before r.checkpoints k) (checkpoint_at r k).table) i)
     (prior_page_id (fields_in v r) k) (change_in (table_before r.checkpoints k) (checkpoint_at r k).table i) ≡ true
@@ -235,7 +239,7 @@ change_met v r k i lawful lt less =
     change_same (length r.pool) (slot_floor (change_in before table) i) (prior_page_id (fields_in v r) k) (slice_index before) c (λ p above lt. prior_encoded v r k p lt)
     ∙ number_tested (length r.pool) i before table less ∙ le-leb _ _ named
 
-checkpoint_rules_met : (v : ℕ) (r : RecordingParts) (k : ℕ) → is_version v ≡ true → AreFormed r.checkpoints → IsLawful r → k < length r.checkpoints
+checkpoint_rules_met : (v : ℕ) (r : RecordingParts) (k : ℕ) → is_version_with_disk v ≡ true → AreFormed r.checkpoints → IsLawfulWithDisk r → k < length r.checkpoints
     → first_broken (checkpoint_rules (fields_in v r) k) ≡ None
 checkpoint_rules_met v r k known formed lawful lt =
     let f = fields_in v r in let before = table_before r.checkpoints k in let c = checkpoint_at r k in
@@ -247,24 +251,30 @@ checkpoint_rules_met v r k known formed lawful lt =
       | inl first ↦ whole_meets f k first (record { fields = test; numbers = λ j less. numbers_met r k j lawful lt less })
       | inr later ↦
           let few : changes_in v before c ≡ length (changes before c.table) = rw later refl in
-          let room : start_in v r k + CHANGES_AT ≤ start_in v r (suc k) =
-          subst (λ (n : ℕ). start_in n r k + CHANGES_AT ≤ start_in n r (suc k)) (sym later) (changed_room r k) in
+          let room = changed_room v r k in
           let there = start_in_rises v r (suc k) (length r.checkpoints) (omega arith) in
           changed_meets f k later (record { room = omega arith; fields = test; ends = omega arith; each_change = λ i less. change_met v r k i lawful lt (omega arith) })
     ]
 
-lawful_met : (v : ℕ) (r : RecordingParts) → is_version v ≡ true → AreFormed r.checkpoints → IsLawful r → AreMet (fields_in v r)
-lawful_met v r known formed lawful =
+-- a recording has as many events as its version may have
+pub events_few : (v : ℕ) (r : RecordingParts) → IsLawfulWithDisk r → ((v == VERSION_WITH_DISK) ≡ false → IsPlain r) → length r.inputs ≤ max_events v
+events_few v r lawful plain = go (v == VERSION_WITH_DISK) refl where
+  go : (b : Bool) → (v == VERSION_WITH_DISK) ≡ b → length r.inputs ≤ max_events v
+  go true is = rw is lawful.events
+  go false is = rw is (plain is).few
+
+lawful_met : (v : ℕ) (r : RecordingParts) → is_version_with_disk v ≡ true → AreFormed r.checkpoints → IsLawfulWithDisk r → ((v == VERSION_WITH_DISK) ≡ false → IsPlain r) → AreMet (fields_in v r)
+lawful_met v r known formed lawful plain =
     let some = lawful.some in
     record {
-      header = parts_header v r known (record { pages = lawful.pages; events = lawful.events; some = omega arith; few = lawful.few });
-      events = events_met v r lawful.ordered lawful.unanswered;
+      header = parts_header v r known (record { pages = lawful.pages; events = events_few v r lawful plain; some = omega arith; few = lawful.few });
+      events = events_met v r lawful.ordered (λ other. (plain other).unanswered.inputs);
       checkpoints = each_all (checkpoint_rules (fields_in v r)) (length r.checkpoints) (λ k lt. checkpoint_rules_met v r k known formed lawful lt);
       ends = ends_met v r;
     }
 
 -- a lawful recording's parts are formed
-pub lawful_formed : (r : RecordingParts) → IsLawful r → AreFormed r.checkpoints
+pub lawful_formed : (r : RecordingParts) → IsLawfulWithDisk r → AreFormed r.checkpoints
 lawful_formed r lawful = λ k d lt.
     let fit = lawful.fit k lt in
     let here : IsFormed (checkpoint_at r k) = record {
@@ -277,60 +287,94 @@ lawful_formed r lawful = λ k d lt.
     } in
     subst IsFormed (get_or_default r.checkpoints k no_checkpoint d lt) here
 
--- parts without answers in their checkpoints are lawful if and only if their file has no fault, in each version
-pub faultless_lawful : (v : ℕ) (r : RecordingParts) → is_version v ≡ true → ArePages r.pool → AreOrdered r.inputs → AreFormed r.checkpoints → All IsUnanswered r.checkpoints
-    → first_broken (rules (fields_in v r)) ≡ None → IsLawful r
-faultless_lawful v r known pages ordered formed unanswered h = met_lawful v r known pages ordered formed unanswered (met_parts (fields_in v r) h)
+-- parts are lawful if and only if their file has no fault, in each version
+pub faultless_lawful : (v : ℕ) (r : RecordingParts) → is_version_with_disk v ≡ true → ArePages r.pool → AreOrdered r.inputs → AreFormed r.checkpoints
+    → first_broken (rules (fields_in v r)) ≡ None → IsLawfulWithDisk r
+faultless_lawful v r known pages ordered formed h = met_lawful v r known pages ordered formed (met_parts (fields_in v r) h)
 
-pub lawful_faultless : (v : ℕ) (r : RecordingParts) → is_version v ≡ true → IsLawful r → first_broken (rules (fields_in v r)) ≡ None
-lawful_faultless v r known lawful = parts_met (fields_in v r) (lawful_met v r known (lawful_formed r lawful) lawful)
-
-rule_equal : (a b : ℕ) (f : Fault) → first_broken ((a == b, f) ∷ []) ≡ None → a ≡ b
-rule_equal a b f h = grind (arith, nat_tests)
+pub lawful_faultless : (v : ℕ) (r : RecordingParts) → is_version_with_disk v ≡ true → IsLawfulWithDisk r → ((v == VERSION_WITH_DISK) ≡ false → IsPlain r) → first_broken (rules (fields_in v r)) ≡ None
+lawful_faultless v r known lawful plain = parts_met (fields_in v r) (lawful_met v r known (lawful_formed r lawful) lawful plain)
 
 -- the rule of a checkpoint's disk
-pub answer_met : (r : RecordingParts) (k : ℕ) → IsUnanswered (checkpoint_at r k) → first_broken (answer_rules r k) ≡ None
-answer_met r k none = hold_none (answer_rules r k) (eq-eqb _ _ none, tt)
+or_left : (a b : Bool) → a ≡ true → (a || b) ≡ true
+or_left a b h = rw h refl
 
-pub answer_unmet : (r : RecordingParts) (k : ℕ) → ¬ (IsUnanswered (checkpoint_at r k)) → first_broken (answer_rules r k) ≡ Some (fault.Checkpoint (start_in VERSION r k))
-answer_unmet r k some = rw (ne_eqb _ _ some) refl
+or_right : (a b : Bool) → b ≡ true → (a || b) ≡ true
+or_right true b h = refl
+or_right false b h = h
 
-pub answers_met : (r : RecordingParts) → All IsUnanswered r.checkpoints → first_broken (each (length r.checkpoints) (answer_rules r)) ≡ None
-answers_met r none = each_all (answer_rules r) (length r.checkpoints) (λ k lt. answer_met r k (none k no_checkpoint lt))
+or_neither : (a b : Bool) → a ≡ false → b ≡ false → (a || b) ≡ false
+or_neither a b ha hb = rw (ha, hb) refl
 
-met_answers : (r : RecordingParts) → first_broken (each (length r.checkpoints) (answer_rules r)) ≡ None → All IsUnanswered r.checkpoints
-met_answers r met k d lt =
-    let here = each_holds (answer_rules r) (length r.checkpoints) k lt met in
-    let own : IsUnanswered (checkpoint_at r k) = rule_equal (checkpoint_at r k).devices.disk UNANSWERED (fault.Checkpoint (start_in VERSION r k)) here in
+pub answer_known : (v : ℕ) (r : RecordingParts) (k : ℕ) → v ≡ VERSION_WITH_DISK → first_broken (answer_rules v r k) ≡ None
+answer_known v r k is = hold_none (answer_rules v r k) (or_left _ _ (eq-eqb _ _ is), tt)
+
+pub answer_met : (v : ℕ) (r : RecordingParts) (k : ℕ) → IsUnanswered (checkpoint_at r k) → first_broken (answer_rules v r k) ≡ None
+answer_met v r k none = hold_none (answer_rules v r k) (or_right _ _ (eq-eqb _ _ none), tt)
+
+pub answer_unmet : (v : ℕ) (r : RecordingParts) (k : ℕ) → (v == VERSION_WITH_DISK) ≡ false → ¬ (IsUnanswered (checkpoint_at r k))
+    → first_broken (answer_rules v r k) ≡ Some (fault.Checkpoint (start_in v r k))
+answer_unmet v r k other some = rw (or_neither _ _ other (ne_eqb _ _ some)) refl
+
+pub answers_met : (v : ℕ) (r : RecordingParts) → ((v == VERSION_WITH_DISK) ≡ false → All IsUnanswered r.checkpoints)
+    → first_broken (each (length r.checkpoints) (answer_rules v r)) ≡ None
+answers_met v r none = each_all (answer_rules v r) (length r.checkpoints) (λ k lt. go (v == VERSION_WITH_DISK) refl k lt) where
+  go : (b : Bool) → (v == VERSION_WITH_DISK) ≡ b → (k : ℕ) → k < length r.checkpoints → first_broken (answer_rules v r k) ≡ None
+  go true is k lt = hold_none (answer_rules v r k) (or_left _ _ is, tt)
+  go false is k lt = answer_met v r k (none is k no_checkpoint lt)
+
+rule_or : (a : Bool) (m n : ℕ) (f : Fault) → a ≡ false → first_broken ((a || m == n, f) ∷ []) ≡ None → m ≡ n
+rule_or true m n f is h = absurd cc
+rule_or false m n f is h = grind (arith, nat_tests)
+
+met_answers : (v : ℕ) (r : RecordingParts) → (v == VERSION_WITH_DISK) ≡ false → first_broken (each (length r.checkpoints) (answer_rules v r)) ≡ None
+    → All IsUnanswered r.checkpoints
+met_answers v r other met k d lt =
+    let here = each_holds (answer_rules v r) (length r.checkpoints) k lt met in
+    let own : IsUnanswered (checkpoint_at r k) =
+    rule_or (v == VERSION_WITH_DISK) (checkpoint_at r k).devices.disk UNANSWERED (fault.Checkpoint (start_in v r k)) other here in
     subst IsUnanswered (get_or_default r.checkpoints k no_checkpoint d lt) own
 
--- parts are lawful if and only if they have no fault
-pub parts_lawful : (r : RecordingParts) → ArePages r.pool → AreOrdered r.inputs → AreFormed r.checkpoints → fault_of_parts r ≡ None → IsLawful r
-parts_lawful r pages ordered formed h =
-    let file = rules (fields_in VERSION r) in let answers = each (length r.checkpoints) (answer_rules r) in
-    faultless_lawful VERSION r refl pages ordered formed (met_answers r (met_right file answers h)) (met_left file answers h)
+-- an earlier version has fewer events
+pub few_events : (v events : ℕ) → (v == VERSION_WITH_DISK) ≡ false → events ≤ max_events v → events ≤ MAX_EVENTS
+few_events v events other h = let same : max_events v ≡ MAX_EVENTS = rw other refl in omega arith
 
-pub lawful_parts : (r : RecordingParts) → IsLawful r → fault_of_parts r ≡ None
-lawful_parts r lawful =
-    met-append (rules (fields_in VERSION r)) _ (lawful_faultless VERSION r refl lawful) ∙ answers_met r lawful.unanswered.checkpoints
+-- parts are lawful if and only if they have no fault, and then plain in an earlier version
+pub parts_lawful : (v : ℕ) (r : RecordingParts) → is_version_with_disk v ≡ true → ArePages r.pool → AreOrdered r.inputs → AreFormed r.checkpoints
+    → fault_in v r ≡ None → IsLawfulWithDisk r
+parts_lawful v r known pages ordered formed h =
+    faultless_lawful v r known pages ordered formed (met_left (rules (fields_in v r)) (each (length r.checkpoints) (answer_rules v r)) h)
+
+pub parts_plain : (v : ℕ) (r : RecordingParts) → fault_in v r ≡ None → (v == VERSION_WITH_DISK) ≡ false → IsPlain r
+parts_plain v r h other =
+    let file = rules (fields_in v r) in let answers = each (length r.checkpoints) (answer_rules v r) in
+    let met = met_parts (fields_in v r) (met_left file answers h) in
+    record {
+      few = few_events v (length r.inputs) other (header_within (fields_in v r) met.header).events;
+      unanswered = record { inputs = met_events v r other met.events; checkpoints = met_answers v r other (met_right file answers h) };
+    }
+
+pub lawful_parts : (v : ℕ) (r : RecordingParts) → is_version_with_disk v ≡ true → IsLawfulWithDisk r → ((v == VERSION_WITH_DISK) ≡ false → IsPlain r) → fault_in v r ≡ None
+lawful_parts v r known lawful plain =
+    met-append (rules (fields_in v r)) _ (lawful_faultless v r known lawful plain) ∙ answers_met v r (λ other. (plain other).unanswered.checkpoints)
 
 -- parts that fit have the fault of their file
-pub parts_of_file : (r : RecordingParts) → All IsUnanswered r.checkpoints → first_broken (rules (fields_in VERSION r)) ≡ fault_of_parts r
-parts_of_file r none =
-    let file = rules (fields_in VERSION r) in
-    sym (first_append file (each (length r.checkpoints) (answer_rules r)) ∙ ap (option_or (first_broken file)) (answers_met r none) ∙ or_none (first_broken file))
+pub parts_of_file : (v : ℕ) (r : RecordingParts) → ((v == VERSION_WITH_DISK) ≡ false → All IsUnanswered r.checkpoints) → first_broken (rules (fields_in v r)) ≡ fault_in v r
+parts_of_file v r none =
+    let file = rules (fields_in v r) in
+    sym (first_append file (each (length r.checkpoints) (answer_rules v r)) ∙ ap (option_or (first_broken file)) (answers_met v r none) ∙ or_none (first_broken file))
 
 -- the first fault of parts is that of their header, or else of their inputs, of their checkpoints, or of an answer
-pub parts_in_order : (r : RecordingParts) (n : ℕ) (h e c a : Option Fault) → n ≡ length r.checkpoints
-    → h ≡ first_broken (header_rules (fields_in VERSION r)) → e ≡ first_broken (each (length r.inputs) (event_rules (fields_in VERSION r)))
-    → c ≡ first_broken (each n (checkpoint_rules (fields_in VERSION r))) → a ≡ first_broken (each n (answer_rules r))
-    → fault_of_parts r ≡ option_or (option_or (option_or h e) c) a
-parts_in_order r n h e c a len header events checkpoints answers =
-    let f = fields_in VERSION r in
+pub parts_in_order : (v : ℕ) (r : RecordingParts) (n : ℕ) (h e c a : Option Fault) → n ≡ length r.checkpoints
+    → h ≡ first_broken (header_rules (fields_in v r)) → e ≡ first_broken (each (length r.inputs) (event_rules (fields_in v r)))
+    → c ≡ first_broken (each n (checkpoint_rules (fields_in v r))) → a ≡ first_broken (each n (answer_rules v r))
+    → fault_in v r ≡ option_or (option_or (option_or h e) c) a
+parts_in_order v r n h e c a len header events checkpoints answers =
+    let f = fields_in v r in
     let at_checkpoints = ap (λ (m : ℕ). first_broken (each m (checkpoint_rules f))) (sym len) ∙ sym checkpoints in
-    let at_answers = ap (λ (m : ℕ). first_broken (each m (answer_rules r))) (sym len) ∙ sym answers in
+    let at_answers = ap (λ (m : ℕ). first_broken (each m (answer_rules v r))) (sym len) ∙ sym answers in
     let file : first_broken (rules f) ≡ option_or (option_or h e) c =
-    rules_first f ∙ (λ i. in_order (sym header i) (sym events i) (at_checkpoints i) (ends_met VERSION r i)) ∙ or_none _ in
+    rules_first f ∙ (λ i. in_order (sym header i) (sym events i) (at_checkpoints i) (ends_met v r i)) ∙ or_none _ in
     first_append (rules f) _ ∙ (λ i. option_or (file i) (at_answers i))
 
 pub if_none : (o : Option Fault) (P : Type 0) → (o ≡ None → P) → IfNone o P

@@ -17,6 +17,7 @@ pub mod Bytes
 pub mod Encoded
 pub mod One
 pub mod Decode
+pub mod PlainLemmas
 pub mod LawLemmas
 pub mod Named
 mod Examples

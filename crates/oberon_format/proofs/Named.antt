@@ -1,5 +1,5 @@
 -- No rule is broken with an allocation failure.
-use Rattle.oberon_format.proofs.Common.{answer_rules, Bool, changed_rules, checkpoint_rules, each, end_rules, event_rules, false, Fault, fault_of_parts, Fields, fields_in, fields_of, first_broken, first_fault_of, FIRST_VERSION, header_rules, IfSome, if◌then◌else◌, IsNamedFault, length, List, PAGE_SLOTS, RecordingParts, Rule, true, VERSION, whole_rules, [], ℕ, ◌++◌, ◌==◌, ◌∷◌}
+use Rattle.oberon_format.proofs.Common.{[], Bool, changed_rules, checkpoint_rules, each, end_rules, event_rules, false, Fault, fault_in, answer_rules, length, Fields, fields_in, fields_of, first_broken, first_fault_of, first_fault_with_disk, FIRST_VERSION, header_rules, IfSome, if◌then◌else◌, IsNamedFault, List, PAGE_SLOTS, RecordingParts, Rule, true, version_rules, whole_rules, ℕ, ◌++◌, ◌==◌, ◌∷◌}
 use Rattle.oberon_format.specs.Rules.{rules}
 use Rattle.oberon_format.proofs.RuleLemmas.{each_rule-each, each_rule-append, EachRule}
 
@@ -35,10 +35,15 @@ first_named [] named = tt
 first_named ((true, fault) ∷ rules) named = first_named rules named.1
 first_named ((false, fault) ∷ rules) named = named.0
 
-pub fault_named : (bytes : List ℕ) → IfSome (first_fault_of bytes) IsNamedFault
-fault_named bytes = first_named (rules (fields_of bytes)) (rules_named (fields_of bytes))
+pub fault_with_disk_named : (bytes : List ℕ) → IfSome (first_fault_with_disk bytes) IsNamedFault
+fault_with_disk_named bytes = first_named (rules (fields_of bytes)) (rules_named (fields_of bytes))
 
-pub parts_named : (r : RecordingParts) → IfSome (fault_of_parts r) IsNamedFault
-parts_named r =
-    let file = rules (fields_in VERSION r) in let answers = each (length r.checkpoints) (answer_rules r) in
-    first_named (file ++ answers) (join file answers (rules_named (fields_in VERSION r)) (named_each (length r.checkpoints) (answer_rules r) (λ k. (tt, tt))))
+pub fault_named : (bytes : List ℕ) → IfSome (first_fault_of bytes) IsNamedFault
+fault_named bytes =
+    let f = fields_of bytes in
+    first_named (version_rules f ++ rules f) (join (version_rules f) (rules f) (tt, (tt, (tt, tt))) (rules_named f))
+
+pub parts_named : (v : ℕ) (r : RecordingParts) → IfSome (fault_in v r) IsNamedFault
+parts_named v r =
+    let answers = each (length r.checkpoints) (answer_rules v r) in
+    first_named (rules (fields_in v r) ++ answers) (join (rules (fields_in v r)) answers (rules_named (fields_in v r)) (named_each (length r.checkpoints) (answer_rules v r) (λ k. (tt, tt))))

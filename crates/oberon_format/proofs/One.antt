@@ -1,7 +1,8 @@
 -- A file is that of at most one recording: an encoding determines what it encodes, and where it ends.
-use Rattle.oberon_format.proofs.Common.{[], All, ap, AreWritable, arith, checkpoint_at, CheckpointParts, rate_and_phase, DeviceState, drop, drop_at, Event, field_words, FIRST_VERSION, Flags, flags_back, flags_number, flags_of, get_or, get_or_default, Input, is_version, HasStillTimer, key_bytes, length, List, MAX_KEYS, no_checkpoint, output_of, props, RecordingParts, refl, replicate, same_devices, same_input, same_lists, slice_index, start, start_in, subst, suc, sym, take, take_at, Text, IsEncoding, true, version, zero, ℕ, ◌-◌, ◌<◌, ◌^◌, ◌∙◌, ◌∷◌, ◌≡◌}
-use Rattle.oberon_format.proofs.Agree.{version_of, pages_are, events_are, checkpoints_are, page_is, event_is, start_is, later, common, numbers_agree}
+use Rattle.oberon_format.proofs.Common.{Text, [], All, ap, AreWritableWithDisk, arith, checkpoint_at, CheckpointParts, rate_and_phase, DeviceState, drop, drop_at, Event, field_words, FIRST_VERSION, Flags, flags_back, flags_number, flags_of, get_or, get_or_default, Input, is_version_with_disk, IsUnanswered, HasStillTimer, VERSION_WITH_DISK, false, ◌==◌, key_bytes, length, List, MAX_KEYS, no_checkpoint, output_of, props, RecordingParts, refl, replicate, same_devices, same_input, same_lists, slice_index, start, start_in, subst, suc, sym, take, take_at, TextWithDisk, IsEncoding, true, version, zero, ℕ, ◌-◌, ◌<◌, ◌^◌, ◌∙◌, ◌∷◌, ◌≡◌}
+use Rattle.oberon_format.proofs.Agree.{version_of, pages_are, events_are, checkpoints_are, page_is, event_is, start_is, later, common, disk_is, numbers_agree}
 use Rattle.oberon_format.proofs.Encoded.{AreAt, encoded_parts, writable}
+use Rattle.oberon_format.proofs.PlainLemmas.{with_disk}
 
 -- events of one count and one input
 event_of_parts : (count : ℕ) (input : Input) → count < 2 ^ 64 → Event
@@ -39,8 +40,9 @@ same_sent (c ∷ cs) (d ∷ ds) len each same (suc i) lt =
     same_sent cs ds (omega arith) (λ k less. each (suc k) (omega arith)) rest i (omega arith)
 
 -- what a file has at its offsets is that of one recording
-module _ (v : ℕ) (bytes : List ℕ) (r s : RecordingParts) (known : is_version v ≡ true) (still : v ≡ FIRST_VERSION → All HasStillTimer r.checkpoints)
-    (still' : v ≡ FIRST_VERSION → All HasStillTimer s.checkpoints) (fr : AreWritable r) (fs : AreWritable s) (a : AreAt v bytes r) (b : AreAt v bytes s) where
+module _ (v : ℕ) (bytes : List ℕ) (r s : RecordingParts) (known : is_version_with_disk v ≡ true) (still : v ≡ FIRST_VERSION → All HasStillTimer r.checkpoints)
+    (still' : v ≡ FIRST_VERSION → All HasStillTimer s.checkpoints) (quiet : (v == VERSION_WITH_DISK) ≡ false → All IsUnanswered r.checkpoints)
+    (quiet' : (v == VERSION_WITH_DISK) ≡ false → All IsUnanswered s.checkpoints) (fr : AreWritableWithDisk r) (fs : AreWritableWithDisk s) (a : AreAt v bytes r) (b : AreAt v bytes s) where
   pages_len : length r.pool ≡ length s.pool
   pages_len = sym (pages_are v bytes r known fr a) ∙ pages_are v bytes s known fs b
 
@@ -77,7 +79,7 @@ module _ (v : ℕ) (bytes : List ℕ) (r s : RecordingParts) (known : is_version
       let flags = same_flags c.cpu.flags d.cpu.flags (field 2) in
       let devices = same_devices c.devices d.devices fc.devices fd.devices (field 4) (clock 0 (omega arith)) (clock 1 (omega arith))
       (field 5) (field 6) (field 7) (field 8) (same_keys c.devices d.devices (field 9) (sym x.keys ∙ y.keys))
-      ((fr.checkpoints k no_checkpoint lt).unanswered ∙ sym (fs.checkpoints k no_checkpoint lt').unanswered) in
+      (sym (disk_is v bytes r known fr a still quiet k lt) ∙ disk_is v bytes s known fs b still' quiet' k lt') in
       let count = fc.table.count in
       let table = same_lists c.table d.table (fc.table.count ∙ sym fd.table.count) (λ p e less.
       get_or_default c.table p e 0 less ∙ sym (numbers_agree v bytes r known fr a still k p lt (omega arith)) ∙ numbers_agree v bytes s known fs b still' k p lt' (omega arith)
@@ -106,16 +108,19 @@ module _ (v : ℕ) (bytes : List ℕ) (r s : RecordingParts) (known : is_version
       λ i. record { pool = pool i; inputs = inputs i; checkpoints = checkpoints i }
 
 -- the version of a file is its own
-pub in_version : (v : ℕ) (bytes : List ℕ) (r : RecordingParts) → version bytes ≡ v → Text bytes r → IsEncoding v bytes r
+pub in_version : (v : ℕ) (bytes : List ℕ) (r : RecordingParts) → version bytes ≡ v → TextWithDisk bytes r → IsEncoding v bytes r
 in_version v bytes r is some =
     let w = some.version in
     let own = version_of w r some.is.known (writable r some.is.lawful) in
     subst (λ (n : ℕ). IsEncoding n bytes r) (sym own ∙ ap version (sym some.is.is) ∙ is) some.is
 
 -- a file is that of one recording
-pub same_recording : (bytes : List ℕ) (r s : RecordingParts) → Text bytes r → Text bytes s → r ≡ s
-same_recording bytes r s is_r is_s =
+pub same_recording_with_disk : (bytes : List ℕ) (r s : RecordingParts) → TextWithDisk bytes r → TextWithDisk bytes s → r ≡ s
+same_recording_with_disk bytes r s is_r is_s =
     let v = version bytes in
     let a = in_version v bytes r refl is_r in
     let b = in_version v bytes s refl is_s in
-    same_parts v bytes r s a.known a.still b.still (writable r a.lawful) (writable s b.lawful) (encoded_parts v bytes r a) (encoded_parts v bytes s b)
+    same_parts v bytes r s a.known a.still b.still (λ other. (a.plain other).unanswered.checkpoints) (λ other. (b.plain other).unanswered.checkpoints) (writable r a.lawful) (writable s b.lawful) (encoded_parts v bytes r a) (encoded_parts v bytes s b)
+
+pub same_recording : (bytes : List ℕ) (r s : RecordingParts) → Text bytes r → Text bytes s → r ≡ s
+same_recording bytes r s is_r is_s = same_recording_with_disk bytes r s (with_disk bytes r is_r) (with_disk bytes s is_s)

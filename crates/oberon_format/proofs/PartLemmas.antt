@@ -1,5 +1,5 @@
 -- The fields of parts, member by member, at the offsets of their checkpoints, and the sums of their outputs.
-use Rattle.oberon_format.proofs.Common.{[], add-one, ap, arith, CHANGE_LEN, changes, CHANGES_AT, changes_in, checkpoint_at, checkpoint_len, CheckpointParts, count_before, end_rules, eq-eqb, Event, event_fields, event_start, false, Fields, fields_in, first_broken, get_or, get_or-map, le-leb, length, length-append, List, nat_le, nat_tests, ne_eqb, no_checkpoint, no_event, None, output_of, PAGE_SLOTS, prior_page_id, RecordingParts, refl, sent_below, slice_index, slice_index_or, start_in, suc, sym, table_before, total, true, VERSION, file_len, zero, zero_number, ℕ, ◌*◌, ◌+◌, ◌-◌, ◌<◌, ◌==◌, ◌∙◌, ◌∷◌, ◌≡◌, ◌≤◌}
+use Rattle.oberon_format.proofs.Common.{[], add-one, ap, arith, CHANGE_LEN, changes, CHANGES_AT, changes_in, checkpoint_at, checkpoint_len, CheckpointParts, count_before, end_rules, eq-eqb, Event, event_fields, event_start, false, Fields, fields_in, first_broken, get_or, get_or-map, le-leb, length, length-append, List, nat_le, nat_tests, ne_eqb, no_checkpoint, no_event, None, output_of, PAGE_SLOTS, prior_page_id, RecordingParts, refl, sent_below, slice_index, slice_index_or, start_in, suc, sym, table_before, total, true, VERSION_WITH_DISK, file_len, zero, zero_number, ℕ, ◌*◌, ◌+◌, ◌-◌, ◌<◌, ◌==◌, ◌∙◌, ◌∷◌, ◌≡◌, ◌≤◌, Bool, cond, disk_len, DISK_LEN, FIRST_VERSION, if◌then◌else◌, LONGEST_RECORDING, LONGEST_WITH_DISK, MAX_CHECKPOINTS, max_events, MAX_EVENTS, MAX_EVENTS_WITH_DISK, MAX_OUTPUT, MAX_PAGES}
 use Rattle.oberon_format.proofs.ChangeLemmas.{changes_few}
 use Rattle.oberon_format.proofs.RuleLemmas.{rises}
 
@@ -50,8 +50,72 @@ pub changes_in_few : (v : ℕ) (before : List ℕ) (c : CheckpointParts) → cha
 changes_in_few v before c = let few = changes_few before c.table in grind arith
 
 -- and so it is at most this long
-pub size_few : (v changes : ℕ) → changes ≤ PAGE_SLOTS → checkpoint_len v changes ≤ CHANGES_AT + CHANGE_LEN * PAGE_SLOTS
-size_few v changes few = grind (arith, nat_tests)
+pub size_few : (v changes : ℕ) → changes ≤ PAGE_SLOTS → checkpoint_len v changes ≤ CHANGES_AT + CHANGE_LEN * PAGE_SLOTS + disk_len v
+size_few v changes few = go (v == FIRST_VERSION) refl
+  where
+    go : (b : Bool) → (v == FIRST_VERSION) ≡ b → checkpoint_len v changes ≤ CHANGES_AT + CHANGE_LEN * PAGE_SLOTS + disk_len v
+    go true is = rw is (omega arith)
+    go false is = rw is (omega arith)
+
+pub disk_few : (v : ℕ) → disk_len v ≤ DISK_LEN
+disk_few v = go (v == VERSION_WITH_DISK)
+  where
+    go : (b : Bool) → cond b DISK_LEN 0 ≤ DISK_LEN
+    go true = omega arith
+    go false = omega arith
+
+-- how far checkpoints of a version reach at most from the offset of the first, if each changes every slot
+unfoldable pub most : ℕ → ℕ → ℕ → ℕ
+most v from zero = from
+most v from (suc k) = most v from k + (CHANGES_AT + CHANGE_LEN * PAGE_SLOTS + disk_len v)
+
+pub most_none : (v from : ℕ) → most v from 0 ≡ from
+unfolding most
+most_none v from = refl
+
+pub most_next : (v from k : ℕ) → most v from (suc k) ≡ most v from k + (CHANGES_AT + CHANGE_LEN * PAGE_SLOTS + disk_len v)
+unfolding most
+most_next v from k = refl
+
+most_is : (v from k : ℕ) (b : Bool) → (v == VERSION_WITH_DISK) ≡ b
+    → most v from k ≡ from + (CHANGES_AT + CHANGE_LEN * PAGE_SLOTS + cond b DISK_LEN 0) * k
+unfolding most
+most_is v from zero b is = omega arith
+most_is v from (suc k) true is = let own : disk_len v ≡ DISK_LEN = rw is refl in omega (arith, most_is v from k true is)
+most_is v from (suc k) false is = let own : disk_len v ≡ 0 = rw is refl in omega (arith, most_is v from k false is)
+
+-- the length of the longest file of a version
+abbrev pub longest : ℕ → ℕ
+longest v = if v == VERSION_WITH_DISK then LONGEST_WITH_DISK else LONGEST_RECORDING
+
+pub longest_least : (v : ℕ) → LONGEST_RECORDING ≤ longest v
+longest_least v = go (v == VERSION_WITH_DISK)
+  where
+    go : (b : Bool) → LONGEST_RECORDING ≤ cond b LONGEST_WITH_DISK LONGEST_RECORDING
+    go true = omega arith
+    go false = omega arith
+
+pub longest_most : (v : ℕ) → longest v ≤ LONGEST_WITH_DISK
+longest_most v = go (v == VERSION_WITH_DISK)
+  where
+    go : (b : Bool) → cond b LONGEST_WITH_DISK LONGEST_RECORDING ≤ LONGEST_WITH_DISK
+    go true = omega arith
+    go false = omega arith
+
+-- it has that many pages, events and checkpoints, and that much output
+pub most_within : (v pages events k : ℕ) → pages ≤ MAX_PAGES → events ≤ max_events v → k ≤ MAX_CHECKPOINTS
+    → most v (event_start pages events) k + MAX_OUTPUT ≤ longest v
+most_within v pages events k some few less = go (v == VERSION_WITH_DISK) refl
+  where
+    go : (b : Bool) → (v == VERSION_WITH_DISK) ≡ b → most v (event_start pages events) k + MAX_OUTPUT ≤ longest v
+    go true is =
+        let limit : max_events v ≡ MAX_EVENTS_WITH_DISK = rw is refl in
+        let all : longest v ≡ LONGEST_WITH_DISK = rw is refl in
+        omega (arith, most_is v (event_start pages events) k true is)
+    go false is =
+        let limit : max_events v ≡ MAX_EVENTS = rw is refl in
+        let all : longest v ≡ LONGEST_RECORDING = rw is refl in
+        omega (arith, most_is v (event_start pages events) k false is)
 
 -- the offset of checkpoint 0 of parts, and of the one after each
 pub start_in_first : (v : ℕ) (r : RecordingParts) → start_in v r 0 ≡ event_start (length r.pool) (length r.inputs)
@@ -67,17 +131,35 @@ start_in_next v r k = refl
 pub start_in_rises : (v : ℕ) (r : RecordingParts) (k n : ℕ) → k ≤ n → start_in v r k ≤ start_in v r n
 start_in_rises v r = rises (start_in v r) (λ k. let next = start_in_next v r k in omega arith)
 
--- each checkpoint of version 2 has its room
-pub changed_room : (r : RecordingParts) (k : ℕ) → start_in VERSION r k + CHANGES_AT ≤ start_in VERSION r (suc k)
-changed_room r k = let next = start_in_next VERSION r k in omega arith
+-- each checkpoint has its room
+size_more : (v changes : ℕ) → CHANGES_AT ≤ checkpoint_len v changes
+size_more v changes = grind (arith, nat_tests)
+
+pub changed_room : (v : ℕ) (r : RecordingParts) (k : ℕ) → start_in v r k + CHANGES_AT ≤ start_in v r (suc k)
+changed_room v r k = omega (arith, start_in_next v r k, size_more v (changes_in v (table_before r.checkpoints k) (checkpoint_at r k)))
 
 -- no further than as many of the longest checkpoints reach
-pub start_in_within : (v : ℕ) (r : RecordingParts) (k : ℕ)
-    → start_in v r k ≤ event_start (length r.pool) (length r.inputs) + (CHANGES_AT + CHANGE_LEN * PAGE_SLOTS) * k
-start_in_within v r zero = omega (arith, start_in_first v r)
+pub start_in_within : (v : ℕ) (r : RecordingParts) (k : ℕ) → start_in v r k ≤ most v (event_start (length r.pool) (length r.inputs)) k
+start_in_within v r zero = omega (arith, start_in_first v r, most_none v (event_start (length r.pool) (length r.inputs)))
 start_in_within v r (suc k) =
     let few = changes_in_few v (table_before r.checkpoints k) (checkpoint_at r k) in
-    omega (arith, start_in_within v r k, start_in_next v r k, size_few v (changes_in v (table_before r.checkpoints k) (checkpoint_at r k)) few)
+    omega (
+      arith,
+      start_in_within v r k,
+      start_in_next v r k,
+      most_next v (event_start (length r.pool) (length r.inputs)) k,
+      size_few v (changes_in v (table_before r.checkpoints k) (checkpoint_at r k)) few,
+    )
+
+-- and so within any limits
+pub start_in_most : (v : ℕ) (r : RecordingParts) (k : ℕ)
+    → start_in v r k ≤ event_start (length r.pool) (length r.inputs) + (CHANGES_AT + CHANGE_LEN * PAGE_SLOTS + DISK_LEN) * k
+start_in_most v r k = go (v == VERSION_WITH_DISK) refl
+  where
+    go : (b : Bool) → (v == VERSION_WITH_DISK) ≡ b
+        → start_in v r k ≤ event_start (length r.pool) (length r.inputs) + (CHANGES_AT + CHANGE_LEN * PAGE_SLOTS + DISK_LEN) * k
+    go true is = omega (arith, start_in_within v r k, most_is v (event_start (length r.pool) (length r.inputs)) k true is)
+    go false is = omega (arith, start_in_within v r k, most_is v (event_start (length r.pool) (length r.inputs)) k false is)
 
 -- the length of all output is the sum of the checkpoints' outputs
 total_head : (f : ℕ → ℕ) (n : ℕ) → total f (suc n) ≡ f 0 + total (λ i. f (suc i)) n

@@ -1,8 +1,8 @@
 -- How far the parts of a file reach.
-use Rattle.oberon_format.proofs.Common.{add-one, ap, arith, change_count, CHANGE_LEN, change_offset, CHANGES_AT, CHECKPOINT_LEN, checkpoint_len, checkpoints, event_offset, events, fields_of, FIRST_VERSION, inl, inr, IsSized, length, List, Meets, named_len, nat_tests, refl, start, suc, VERSION, version, zero, ℕ, ◌*◌, ◌+◌, ◌<◌, ◌∙◌, ◌≡◌, ◌≤◌}
+use Rattle.oberon_format.proofs.Common.{add-one, ap, arith, change_count, CHANGE_LEN, change_offset, CHANGES_AT, CHECKPOINT_LEN, checkpoint_len, checkpoints, event_offset, events, fields_of, FIRST_VERSION, inl, inr, IsSized, length, List, Meets, named_len, nat_tests, refl, start, suc, version, zero, ℕ, ◌*◌, ◌+◌, ◌<◌, ◌∙◌, ◌≡◌, ◌≤◌, ◌==◌, false, disk_len, sym}
 use Rattle.oberon_format.proofs.RuleLemmas.{version_cases, is_first, is_later, rises}
 
--- a checkpoint of either version has the common fields, and at least three more numbers
+-- a checkpoint of each version has the common fields, and at least three more numbers
 pub size_least : (v n : ℕ) → CHANGES_AT ≤ checkpoint_len v n
 size_least v n = grind (arith, nat_tests)
 
@@ -10,7 +10,7 @@ size_least v n = grind (arith, nat_tests)
 pub size_first : (v n : ℕ) → v ≡ FIRST_VERSION → checkpoint_len v n ≡ CHECKPOINT_LEN
 size_first v n is = rw (is_first v is) refl
 
-size_later : (v n : ℕ) → v ≡ VERSION → checkpoint_len v n ≡ CHANGES_AT + CHANGE_LEN * n
+pub size_later : (v n : ℕ) → (v == FIRST_VERSION) ≡ false → checkpoint_len v n ≡ CHANGES_AT + CHANGE_LEN * n + disk_len v
 size_later v n is = rw (is_later v is) refl
 
 pub start_none : (bytes : List ℕ) → start bytes 0 ≡ event_offset bytes (events bytes)
@@ -34,16 +34,16 @@ start_first bytes (suc k) is = omega (arith, start_first bytes k is, start_next 
 pub offset_next : (bytes : List ℕ) (k offset n size : ℕ) → offset ≡ start bytes k → n ≡ change_count bytes offset → size ≡ checkpoint_len (version bytes) n → offset + size ≡ start bytes (k + 1)
 offset_next bytes k offset n size at many is = omega (arith, ap (start bytes) (add-one k) ∙ start_next bytes k, is ∙ ap (checkpoint_len (version bytes)) (many ∙ ap (change_count bytes) at))
 
--- in version 2, by the number of changes
-pub start_later : (bytes : List ℕ) (k offset n : ℕ) → version bytes ≡ VERSION → offset ≡ start bytes k → n ≡ change_count bytes offset → start bytes (suc k) ≡ change_offset offset n
+-- in a later version, by the number of changes
+pub start_later : (bytes : List ℕ) (k offset n : ℕ) → (version bytes == FIRST_VERSION) ≡ false → offset ≡ start bytes k → n ≡ change_count bytes offset → start bytes (suc k) ≡ offset + checkpoint_len (version bytes) n
 start_later bytes k offset n is at many =
-    omega (arith, start_next bytes k, size_later (version bytes) (change_count bytes (start bytes k)) is, many ∙ ap (change_count bytes) at)
+    start_next bytes k ∙ (λ i. sym at i + checkpoint_len (version bytes) (sym (many ∙ ap (change_count bytes) at) i))
 
 -- the length that the header asks for, by the version
 pub named_first : (bytes : List ℕ) → version bytes ≡ FIRST_VERSION → named_len (fields_of bytes) ≡ start bytes 0 + CHECKPOINT_LEN * checkpoints bytes
 named_first bytes is = let test = is_first (version bytes) is in rw test (start_first bytes (checkpoints bytes) is)
 
-named_later : (bytes : List ℕ) → version bytes ≡ VERSION → named_len (fields_of bytes) ≡ start bytes 0
+named_later : (bytes : List ℕ) → (version bytes == FIRST_VERSION) ≡ false → named_len (fields_of bytes) ≡ start bytes 0
 named_later bytes is = let test = is_later (version bytes) is in rw test refl
 
 -- the events are there
@@ -60,8 +60,8 @@ pub whole_room : (bytes : List ℕ) (k : ℕ) → IsSized bytes → k < checkpoi
 whole_room bytes k sized lt is =
     omega (arith, start_le bytes (suc k) (checkpoints bytes) (omega arith), start_first bytes (suc k) is, start_first bytes k is, start_first bytes (checkpoints bytes) is, sized.long, named_first bytes is)
 
--- and each checkpoint of either version, in a file that breaks no rule
-checkpoint_there : (bytes : List ℕ) (k : ℕ) → Meets bytes → k < checkpoints bytes → start bytes k + checkpoint_len (version bytes) (change_count bytes (start bytes k)) ≤ length bytes
+-- and each checkpoint of each version, in a file that breaks no rule
+pub checkpoint_there : (bytes : List ℕ) (k : ℕ) → Meets bytes → k < checkpoints bytes → start bytes k + checkpoint_len (version bytes) (change_count bytes (start bytes k)) ≤ length bytes
 checkpoint_there bytes k meets lt = omega (arith, start_le bytes (suc k) (checkpoints bytes) (omega arith), start_next bytes k, meets.len_is)
 
 pub common_there : (bytes : List ℕ) (k : ℕ) → Meets bytes → k < checkpoints bytes → start bytes k + CHANGES_AT ≤ length bytes
@@ -71,6 +71,6 @@ common_there bytes k meets lt = omega (arith, checkpoint_there bytes k meets lt,
 pub whole_there : (bytes : List ℕ) (k : ℕ) → Meets bytes → k < checkpoints bytes → version bytes ≡ FIRST_VERSION → start bytes k + CHECKPOINT_LEN ≤ length bytes
 whole_there bytes k meets lt is = whole_room bytes k meets.sized lt is
 
--- the changes of one of version 2
-pub changes_there : (bytes : List ℕ) (k : ℕ) → Meets bytes → k < checkpoints bytes → version bytes ≡ VERSION → change_offset (start bytes k) (change_count bytes (start bytes k)) ≤ length bytes
+-- the changes of one of a later version, and the disk's answer
+pub changes_there : (bytes : List ℕ) (k : ℕ) → Meets bytes → k < checkpoints bytes → (version bytes == FIRST_VERSION) ≡ false → change_offset (start bytes k) (change_count bytes (start bytes k)) + disk_len (version bytes) ≤ length bytes
 changes_there bytes k meets lt is = omega (arith, checkpoint_there bytes k meets lt, size_later (version bytes) (change_count bytes (start bytes k)) is)

@@ -1,5 +1,5 @@
 -- The first broken rule of lists of rules, and what a file has if some of its rules are met.
-use Rattle.oberon_format.proofs.Common.{[], add-one, ap, are_keys, arith, Bool, cases_lt, change_rules, changed_rules, CHANGES_AT, checkpoint_of, checkpoint_rules, CheckpointFields, checkpoints, count_before, COUNTER_END, each, end_rules, eq-eqb, eqb-true, event_offset, event_rules, events, false, Fault, Fields, fields_of, first_broken, first_fault_of, FIRST_VERSION, FLAGS_END, header_rules, if◌then◌else◌, in_ranges, inl, inr, is_change, is_checkpoint, is_count, input_with_disk, is_input, is_mouse, is_output, is_phase, is_version, IsInput, IsSized, kind_fits, KIND_AT, le-leb, leb-true, LEDS_END, List, long_at, ltb-true, MAX_KEYS, MAX_OUTPUT, MAX_STOP, Meets, nat_tests, None, Option, option_or, or_cases, page_id_rules, slot_floor, PAGE_SLOTS, prior_page_id, refl, Rule, SENT_AT, sent_below, SERIAL_END, Some, start, suc, SWITCHES_END, sym, total, true, VALUE_AT, VERSION, whole_rules, word_at, zero, ℕ, ◌&&◌, ◌++◌, ◌+◌, ◌<◌, ◌==◌, ◌∙◌, ◌∷◌, ◌≡◌, ◌≤◌, ◌⊎◌}
+use Rattle.oberon_format.proofs.Common.{[], add-one, ap, are_keys, arith, Bool, cases_lt, change_rules, changed_rules, CHANGES_AT, checkpoint_of, checkpoint_rules, CheckpointFields, checkpoints, count_before, COUNTER_END, each, end_rules, eq-eqb, eqb-true, event_offset, event_rules, events, false, Fault, Fields, fields_of, first_broken, first_fault_with_disk, FIRST_VERSION, FLAGS_END, header_rules, if◌then◌else◌, in_ranges, inl, inr, is_change, is_checkpoint, is_count, is_input_with_disk, is_mouse, is_output, is_phase, is_version_with_disk, IsSized, KIND_AT, le-leb, leb-true, LEDS_END, List, long_at, ltb-true, MAX_KEYS, MAX_OUTPUT, MAX_STOP, Meets, nat_tests, None, Option, option_or, page_id_rules, slot_floor, PAGE_SLOTS, prior_page_id, refl, Rule, SENT_AT, sent_below, SERIAL_END, Some, start, suc, SWITCHES_END, sym, total, true, VALUE_AT, VERSION_WITH_DISK, whole_rules, word_at, zero, ℕ, ◌&&◌, ◌++◌, ◌+◌, ◌<◌, ◌==◌, ◌∙◌, ◌∷◌, ◌≡◌, ◌≤◌, ◌⊎◌, ◌^◌, max_events, MAX_EVENTS_WITH_DISK}
 use Rattle.oberon_format.specs.Rules.{rules}
 
 -- the first fault of two lists is that of the first one, or else that of the second
@@ -67,7 +67,7 @@ rules_first x =
     ∙ ap (λ (o : Option Fault). option_or o (first_broken (end_rules x))) (first_append (h ++ e) c ∙ ap (λ (o : Option Fault). option_or o (first_broken c)) (first_append h e))
 
 -- for a file, whose variables `grind` can see
-pub fault_first : (bytes : List ℕ) → first_fault_of bytes
+pub fault_first : (bytes : List ℕ) → first_fault_with_disk bytes
     ≡ in_order (first_broken (header_rules (fields_of bytes))) (first_broken (each (events bytes) (event_rules (fields_of bytes))))
     (first_broken (each (checkpoints bytes) (checkpoint_rules (fields_of bytes)))) (first_broken (end_rules (fields_of bytes)))
 fault_first bytes = rules_first (fields_of bytes)
@@ -160,7 +160,7 @@ unfolding each
 each_all rules zero h = refl
 each_all rules (suc n) h = met-append (each n rules) (rules n) (each_all rules n (λ i lt. h i (omega arith))) ∙ h n (omega arith)
 
-pub none_meets : (bytes : List ℕ) → first_fault_of bytes ≡ None → Meets bytes
+pub none_meets : (bytes : List ℕ) → first_fault_with_disk bytes ≡ None → Meets bytes
 none_meets bytes h =
     let are = met_parts (fields_of bytes) h in
     let sized = header_sized bytes are.header in let header = are.header in let ends = are.ends in
@@ -183,42 +183,48 @@ pub and_right : (a b : Bool) → (a && b) ≡ true → b ≡ true
 and_right true b h = h
 and_right false b h = absurd cc
 
-pub kind_small : (kind value : ℕ) → IsInput kind value → kind < 7
-kind_small kind value lawful = kind_fits kind value (input_with_disk kind value lawful)
-
-pub event_input : (bytes : List ℕ) (i : ℕ) → Meets bytes → i < events bytes → is_input (word_at bytes (event_offset bytes i + KIND_AT)) (word_at bytes (event_offset bytes i + VALUE_AT)) ≡ true
+pub event_input : (bytes : List ℕ) (i : ℕ) → Meets bytes → i < events bytes → is_input_with_disk (word_at bytes (event_offset bytes i + KIND_AT)) (word_at bytes (event_offset bytes i + VALUE_AT)) ≡ true
 event_input bytes i meets lt =
     let one = each_holds (event_rules (fields_of bytes)) (events bytes) i lt meets.events_meet in
-    and_right _ _ (none_hold (event_rules (fields_of bytes) i) one).0
+    and_right _ _ (and_left _ _ (none_hold (event_rules (fields_of bytes) i) one).0)
 
--- the known versions
-pub version_cases : (v : ℕ) → is_version v ≡ true → (v ≡ FIRST_VERSION) ⊎ (v ≡ VERSION)
-version_cases v known =
-    elim (or_cases (v == FIRST_VERSION) (v == VERSION) known) [
-      | inl first ↦ inl (eqb-true v FIRST_VERSION first)
-      | inr later ↦ inr (eqb-true v VERSION later)
-    ]
+-- a known version is the first, or a later one
+pub version_cases : (v : ℕ) → is_version_with_disk v ≡ true → (v ≡ FIRST_VERSION) ⊎ ((v == FIRST_VERSION) ≡ false)
+version_cases v known = go (v == FIRST_VERSION) refl where
+  go : (b : Bool) → (v == FIRST_VERSION) ≡ b → (v ≡ FIRST_VERSION) ⊎ ((v == FIRST_VERSION) ≡ false)
+  go true is = inl (eqb-true v FIRST_VERSION is)
+  go false is = inr is
+
+-- the last version is a later one
+pub last_later : (v : ℕ) → (v == VERSION_WITH_DISK) ≡ true → (v == FIRST_VERSION) ≡ false
+last_later v is = rw (eqb-true v VERSION_WITH_DISK is) refl
+
+pub first_not_last : (v : ℕ) → v ≡ FIRST_VERSION → (v == VERSION_WITH_DISK) ≡ false
+first_not_last v is = rw is refl
+
+pub version_small : (v : ℕ) → is_version_with_disk v ≡ true → v < 2 ^ 32
+version_small v known = grind (arith, nat_tests)
+
+-- no version has more events than the last
+pub events_most : (v : ℕ) → max_events v ≤ MAX_EVENTS_WITH_DISK
+events_most v = grind (arith, nat_tests)
 
 pub is_first : (v : ℕ) → v ≡ FIRST_VERSION → (v == FIRST_VERSION) ≡ true
 is_first v is = eq-eqb v FIRST_VERSION is
 
-pub is_later : (v : ℕ) → v ≡ VERSION → (v == FIRST_VERSION) ≡ false
-is_later v is = rw is refl
+pub is_later : (v : ℕ) → (v == FIRST_VERSION) ≡ false → (v == FIRST_VERSION) ≡ false
+is_later v is = is
 
 -- and by that test
-pub later_by : (v : ℕ) → is_version v ≡ true → (v == FIRST_VERSION) ≡ false → v ≡ VERSION
-later_by v known test =
-    elim (version_cases v known) [
-      | inl first ↦ let wrong = is_first v first in absurd cc
-      | inr later ↦ later
-    ]
+pub later_by : (v : ℕ) → is_version_with_disk v ≡ true → (v == FIRST_VERSION) ≡ false → (v == FIRST_VERSION) ≡ false
+later_by v known test = test
 
 -- the rules of a checkpoint by the version
 pub rules_whole : (f : Fields) (k : ℕ) → f.version ≡ FIRST_VERSION → checkpoint_rules f k ≡ whole_rules f k
 unfolding checkpoint_rules
 rules_whole f k is = rw (is_first f.version is) refl
 
-pub rules_changed : (f : Fields) (k : ℕ) → f.version ≡ VERSION → checkpoint_rules f k ≡ changed_rules f k
+pub rules_changed : (f : Fields) (k : ℕ) → (f.version == FIRST_VERSION) ≡ false → checkpoint_rules f k ≡ changed_rules f k
 unfolding checkpoint_rules
 rules_changed f k is = rw (is_later f.version is) refl
 
@@ -227,7 +233,7 @@ pub record WholeMet (f : Fields) (k : ℕ) : Type 0 where
   pub fields : is_checkpoint k (count_before f k) (sent_below f k) (f.checkpoint k) ≡ true
   pub numbers : (j : ℕ) → j < PAGE_SLOTS → f.page_id k j ≤ f.pages
 
--- one of version 2
+-- one of a later version
 pub record ChangedMet (f : Fields) (k : ℕ) : Type 0 where
   pub room : f.start k + CHANGES_AT ≤ f.long
   pub fields : is_checkpoint k (count_before f k) (sent_below f k) (f.checkpoint k) ≡ true
@@ -253,7 +259,7 @@ whole_meets f k is met =
     let each_number = each_all numbers PAGE_SLOTS (λ j lt. hold_none (numbers j) (le-leb _ _ (met.numbers j lt), tt)) in
     ap (λ (xs : List (Rule Fault)). first_broken xs) (rules_whole f k is) ∙ hold_none (whole_rules f k) (met.fields, none_hold (each PAGE_SLOTS numbers) each_number)
 
-pub changed_met : (f : Fields) (k : ℕ) → f.version ≡ VERSION → first_broken (checkpoint_rules f k) ≡ None → ChangedMet f k
+pub changed_met : (f : Fields) (k : ℕ) → (f.version == FIRST_VERSION) ≡ false → first_broken (checkpoint_rules f k) ≡ None → ChangedMet f k
 changed_met f k is met =
     let n = (f.checkpoint k).changes in
     let changes = change_rules f.pages (f.start k) (prior_page_id f k) (f.change k) in
@@ -265,7 +271,7 @@ changed_met f k is met =
       each_change = λ i lt. (none_hold (changes i) (each_holds changes n i lt (hold_none (each n changes) all.1.1.1))).0;
     }
 
-pub changed_meets : (f : Fields) (k : ℕ) → f.version ≡ VERSION → ChangedMet f k → first_broken (checkpoint_rules f k) ≡ None
+pub changed_meets : (f : Fields) (k : ℕ) → (f.version == FIRST_VERSION) ≡ false → ChangedMet f k → first_broken (checkpoint_rules f k) ≡ None
 changed_meets f k is met =
     let n = (f.checkpoint k).changes in
     let changes = change_rules f.pages (f.start k) (prior_page_id f k) (f.change k) in

@@ -1,5 +1,5 @@
 -- Fields that agree as far as rules look have the same first fault.
-use Rattle.oberon_format.proofs.Common.{[], ap, ap₂, arith, Bool, Change, change_offset, change_rules, changed_rules, CHANGES_AT, checkpoint_rules, CheckpointFields, count_before, each, end_rules, event_rules, EventFields, false, Fault, field_rules, Fields, first_broken, FIRST_VERSION, HEADER_LEN, header_rules, if◌then◌else◌, is_change, is_event, is_version, LAST_AT, limit_rules, List, MAGIC, MAGIC_AT, MAX_CHECKPOINTS, MAX_EVENTS, MAX_PAGES, named_len, nat_le, nat_tests, None, offset_of_event, Option, page_id_offset, page_id_rules, slot_floor, PAGE_SLOTS, prior_page_id, refl, Rule, sent_below, Some, suc, sym, total, true, VERSION_AT, whole_rules, zero, ℕ, ◌++◌, ◌+◌, ◌-◌, ◌<◌, ◌==◌, ◌∙◌, ◌∷◌, ◌≡◌, ◌≤◌}
+use Rattle.oberon_format.proofs.Common.{[], ap, ap₂, arith, Bool, Change, change_offset, change_rules, changed_rules, CHANGES_AT, checkpoint_rules, CheckpointFields, count_before, each, end_rules, event_rules, EventFields, false, Fault, field_rules, Fields, first_broken, FIRST_VERSION, HEADER_LEN, header_rules, if◌then◌else◌, is_change, is_event, is_version_with_disk, LAST_AT, limit_rules, List, MAGIC, MAGIC_AT, MAX_CHECKPOINTS, MAX_PAGES, named_len, nat_le, nat_tests, None, offset_of_event, Option, page_id_offset, page_id_rules, slot_floor, PAGE_SLOTS, prior_page_id, refl, Rule, sent_below, Some, suc, sym, total, true, VERSION_AT, whole_rules, zero, ℕ, ◌++◌, ◌+◌, ◌-◌, ◌<◌, ◌==◌, ◌∙◌, ◌∷◌, ◌≡◌, ◌≤◌, max_events}
 use Rattle.oberon_format.specs.Rules.{rules}
 use Rattle.oberon_format.proofs.ChangeLemmas.{floor_same}
 use Rattle.oberon_format.proofs.PartLemmas.{before_next, prior_more}
@@ -38,7 +38,7 @@ numbers_same pages offset m n h =
     same_each PAGE_SLOTS (page_id_rules pages offset m) (page_id_rules pages offset n)
     (λ j lt. ap (λ (v : ℕ). first_broken ((nat_le v pages, fault.Page (page_id_offset offset j)) ∷ [])) (h j lt))
 
--- the changes of a checkpoint of version 2
+-- the changes of a checkpoint of version 2 or 3
 pub changes_same : (pages offset n : ℕ) (s t : ℕ → ℕ) (a b : ℕ → Change) → ((p : ℕ) → p < PAGE_SLOTS → s p ≡ t p) → ((i : ℕ) → i < n → a i ≡ b i)
     → first_broken (each n (change_rules pages offset s a)) ≡ first_broken (each n (change_rules pages offset t b))
 changes_same pages offset n s t a b stands same =
@@ -60,7 +60,7 @@ size_rules n f = (nat_le n f.long, fault.Short f.long) ∷ []
 -- counts of pages, events and checkpoints within their limits
 pub record AreFew (f : Fields) : Type 0 where
   pub pages : f.pages ≤ MAX_PAGES
-  pub events : f.events ≤ MAX_EVENTS
+  pub events : f.events ≤ max_events f.version
   pub checkpoints : f.checkpoints ≤ MAX_CHECKPOINTS
 
 -- what is before checkpoint k
@@ -124,7 +124,7 @@ events_same : (f g : Fields) → SameParts f g → Same (each g.events (event_ru
 events_same f g same =
     same_each g.events (event_rules (mixed f g)) (event_rules g) (λ i lt.
     let floor = ap (λ (e : EventFields). if i == 0 then 0 else e.count) (same.event (i - 1) (omega arith)) in
-    ap₂ (λ (n : ℕ) (e : EventFields). first_broken ((is_event n e, fault.Event (offset_of_event g i)) ∷ [])) floor (same.event i lt))
+    ap₂ (λ (n : ℕ) (e : EventFields). first_broken ((is_event g.version n e, fault.Event (offset_of_event g i)) ∷ [])) floor (same.event i lt))
 
 -- the rules of the fields of a checkpoint, and what they say of its changes
 abbrev rules_of_fields : Fields → ℕ → List (Rule Fault)
@@ -144,7 +144,7 @@ whole_same f g k so_far same =
     ap (λ (n : ℕ). first_broken (each PAGE_SLOTS (page_id_rules g.pages n (f.page_id k)))) so_far.start
     ∙ numbers_same g.pages (g.start k) (f.page_id k) (g.page_id k) (same.rest (changes_few g k met)).page_id)
 
--- a checkpoint of version 2
+-- a checkpoint of version 2 or 3
 changed_same : (f g : Fields) (k : ℕ) → SoFar f g k → SameCheckpoint f g k → Same (changed_rules (mixed f g) k) (changed_rules g k)
 changed_same f g k so_far same =
     let changes = each (f.checkpoint k).changes (change_rules g.pages (f.start k) (prior_page_id f k) (f.change k)) in
@@ -168,7 +168,7 @@ checkpoint_same f g k so_far same = go (g.version == FIRST_VERSION) where
 -- the rules of the numbers in the header
 abbrev number_rules : Fields → List (Rule Fault)
 number_rules g =
-    ((g.first == MAGIC, fault.Magic MAGIC_AT) ∷ (is_version g.version, fault.Version VERSION_AT) ∷ []) ++ limit_rules g.pages g.events g.checkpoints
+    ((g.first == MAGIC, fault.Magic MAGIC_AT) ∷ (is_version_with_disk g.version, fault.Version VERSION_AT) ∷ []) ++ limit_rules g.version g.pages g.events g.checkpoints
     ++ ((g.last == 0, fault.Limit LAST_AT) ∷ [])
 
 few_by : (g : Fields) → first_broken (number_rules g) ≡ None → AreFew g

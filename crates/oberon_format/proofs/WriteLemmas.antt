@@ -1,5 +1,5 @@
 -- What is written for a list, member by member.
-use Rattle.oberon_format.proofs.Common.{[], add-one, ap, append_assoc, arith, Change, change_bytes, changes_below, checkpoint_bytes, CheckpointParts, checkpoints_bytes, encoding, Event, event_bytes, flat_map, flat_map_more, get_or, header_bytes, length, length-append, List, nat_tests, no_checkpoint, output_of, page_of, RecordingParts, slice_index, suc, sym, table_before, take, take_more, VERSION, words_bytes, zero, zero_page, ℕ, ◌++◌, ◌+◌, ◌<◌, ◌∙◌, ◌∷◌, ◌≡◌, ◌≢◌, ◌≤◌}
+use Rattle.oberon_format.proofs.Common.{[], add-one, ap, append_assoc, arith, Change, change_bytes, changes_below, checkpoint_bytes, CheckpointParts, checkpoints_bytes, encoding, Event, event_bytes, flat_map, flat_map_more, get_or, header_bytes, length, length-append, List, nat_tests, no_checkpoint, output_of, page_of, RecordingParts, slice_index, suc, sym, table_before, take, take_more, words_bytes, zero, zero_page, ℕ, ◌++◌, ◌+◌, ◌<◌, ◌∙◌, ◌∷◌, ◌≡◌, ◌≢◌, ◌≤◌}
 use Rattle.oberon_format.proofs.Walk.{below_stays, below_grows}
 
 -- the bytes of one member more
@@ -23,23 +23,23 @@ changes_next before table start out more p other so_far now =
     ∙ ap (λ (cs : List Change). start ++ flat_map change_bytes cs) (sym (below_grows p before table other))
 
 -- the bytes of one checkpoint more
-pub checkpoint_next : (cs : List CheckpointParts) (start out more before : List ℕ) (k : ℕ) (c : CheckpointParts)
-    → out ≡ start ++ checkpoints_bytes VERSION cs k → before ≡ table_before cs k → c ≡ get_or cs k no_checkpoint → more ≡ out ++ checkpoint_bytes VERSION before c
-    → more ≡ start ++ checkpoints_bytes VERSION cs (k + 1)
+pub checkpoint_next : (v : ℕ) (cs : List CheckpointParts) (start out more before : List ℕ) (k : ℕ) (c : CheckpointParts)
+    → out ≡ start ++ checkpoints_bytes v cs k → before ≡ table_before cs k → c ≡ get_or cs k no_checkpoint → more ≡ out ++ checkpoint_bytes v before c
+    → more ≡ start ++ checkpoints_bytes v cs (k + 1)
 unfolding checkpoints_bytes
-checkpoint_next cs start out more before k c so_far table here now =
-    now ∙ (λ i. so_far i ++ checkpoint_bytes VERSION (table i) (here i)) ∙ append_assoc start (checkpoints_bytes VERSION cs k) _
-    ∙ ap (λ (n : ℕ). start ++ checkpoints_bytes VERSION cs n) (sym (add-one k))
+checkpoint_next v cs start out more before k c so_far table here now =
+    now ∙ (λ i. so_far i ++ checkpoint_bytes v (table i) (here i)) ∙ append_assoc start (checkpoints_bytes v cs k) _
+    ∙ ap (λ (n : ℕ). start ++ checkpoints_bytes v cs n) (sym (add-one k))
 
 -- the bytes of all parts
-pub parts_joined : (r : RecordingParts) (events : List Event) (a b c d e f : List ℕ) → events ≡ r.inputs → a ≡ [] → b ≡ a ++ header_bytes VERSION r → d ≡ c ++ flat_map event_bytes events
-    → e ≡ d ++ checkpoints_bytes VERSION r.checkpoints (length r.checkpoints) → f ≡ e ++ output_of r.checkpoints → c ≡ b ++ flat_map words_bytes r.pool → f ≡ encoding VERSION r
+pub parts_joined : (v : ℕ) (r : RecordingParts) (events : List Event) (a b c d e f : List ℕ) → events ≡ r.inputs → a ≡ [] → b ≡ a ++ header_bytes v r → d ≡ c ++ flat_map event_bytes events
+    → e ≡ d ++ checkpoints_bytes v r.checkpoints (length r.checkpoints) → f ≡ e ++ output_of r.checkpoints → c ≡ b ++ flat_map words_bytes r.pool → f ≡ encoding v r
 unfolding encoding
-parts_joined r events a b c d e f same none header inputs checkpoints output pages =
-    let front = pages ∙ ap (λ (l : List ℕ). l ++ flat_map words_bytes r.pool) (header ∙ ap (λ (l : List ℕ). l ++ header_bytes VERSION r) none) in
+parts_joined v r events a b c d e f same none header inputs checkpoints output pages =
+    let front = pages ∙ ap (λ (l : List ℕ). l ++ flat_map words_bytes r.pool) (header ∙ ap (λ (l : List ℕ). l ++ header_bytes v r) none) in
     let lists = inputs ∙ (λ i. front i ++ flat_map event_bytes (same i)) in
     output ∙ ap (λ (l : List ℕ). l ++ output_of r.checkpoints)
-    (checkpoints ∙ ap (λ (l : List ℕ). l ++ checkpoints_bytes VERSION r.checkpoints (length r.checkpoints)) lists)
+    (checkpoints ∙ ap (λ (l : List ℕ). l ++ checkpoints_bytes v r.checkpoints (length r.checkpoints)) lists)
 
 -- page id p + 1 is that of page p of the pool
 pub next_page : (pool : List (List ℕ)) (p : ℕ) → page_of pool (p + 1) ≡ get_or pool p zero_page

@@ -1,5 +1,5 @@
 -- The fields of a file, and its first fault.
-use Rattle.std.specs.Prelude.{ℕ, zero, suc, ◌≡◌, ◌+◌, ◌==◌, if◌then◌else◌, List, length, slice_range, Option, MatchOption, Result}
+use Rattle.std.specs.Prelude.{ℕ, zero, suc, ◌≡◌, ◌+◌, ◌==◌, if◌then◌else◌, List, ◌++◌, length, slice_range, Option, MatchOption, Result}
 use Rattle.std.specs.Prelude.{Err, MatchResult}
 use Rattle.oberon_format.specs.declared.change.Change.{Change}
 use Rattle.oberon_format.specs.declared.fault.Fault.{Fault}
@@ -13,7 +13,7 @@ use Rattle.oberon_format.specs.Fields.{EventFields, Fields}
 use Rattle.oberon_format.specs.FirstFault.{first_broken}
 use Rattle.oberon_format.specs.Layout.{word_at, long_at, version, pages, events, checkpoints, page_id_offset, change_offset}
 use Rattle.oberon_format.specs.Layout.{event_offset, word_since_2, change_count, start}
-use Rattle.oberon_format.specs.Rules.{rules}
+use Rattle.oberon_format.specs.Rules.{rules, version_rules}
 
 -- the event at an offset
 abbrev pub event_of : List ℕ → ℕ → EventFields
@@ -46,11 +46,11 @@ checkpoint_of bytes offset = record {
 abbrev pub change_at : List ℕ → ℕ → Change
 change_at bytes offset = record { slot = word_at bytes offset; page_id = word_at bytes (offset + PAGE_ID_AT) }
 
--- change i of the checkpoint of version 2 at an offset
+-- change i of the checkpoint of version 2 or 3 at an offset
 abbrev pub change_of : List ℕ → ℕ → ℕ → Change
 change_of bytes offset i = change_at bytes (change_offset offset i)
 
--- the page id in slot p before checkpoint k of a file of version 2: at first 0, then what the changes of the checkpoint before
+-- the page id in slot p before checkpoint k of a file of version 2 or 3: at first 0, then what the changes of the checkpoint before
 -- left
 unfoldable pub page_id_before : List ℕ → ℕ → ℕ → ℕ
 page_id_before bytes zero p = 0
@@ -79,11 +79,20 @@ fields_of bytes = record {
   page_id = page_id_of bytes;
 }
 
--- the first fault of a file, if it has one
-abbrev pub first_fault_of : List ℕ → Option Fault
-first_fault_of bytes = first_broken (rules (fields_of bytes))
+-- the first fault of a file of any version, if it has one
+abbrev pub first_fault_with_disk : List ℕ → Option Fault
+first_fault_with_disk bytes = first_broken (rules (fields_of bytes))
 
--- an answer to a file: if the file has no fault, a good one or an allocation failure; else its first fault
+-- the first fault of a file without a disk, if it has one
+abbrev pub first_fault_of : List ℕ → Option Fault
+first_fault_of bytes = first_broken (version_rules (fields_of bytes) ++ rules (fields_of bytes))
+
+-- an answer to a file without a disk: if the file has no fault, a good one or an allocation failure; else its first fault
 abbrev pub AnswersBytes : {Answer : Type 0} → List ℕ → (Answer → Type 0) → Result Answer Fault → Type 0
 AnswersBytes bytes IsGood answer =
     MatchOption (first_fault_of bytes) (MatchResult answer IsGood (λ f. f ≡ fault.Memory)) (λ f. answer ≡ Err f)
+
+-- the same for a file of any version
+abbrev pub AnswersBytesWithDisk : {Answer : Type 0} → List ℕ → (Answer → Type 0) → Result Answer Fault → Type 0
+AnswersBytesWithDisk bytes IsGood answer =
+    MatchOption (first_fault_with_disk bytes) (MatchResult answer IsGood (λ f. f ≡ fault.Memory)) (λ f. answer ≡ Err f)

@@ -6,7 +6,7 @@ use Rattle.risc_core.specs.Flags.{flags_number}
 use Rattle.risc_devices.specs.DeviceState.{DeviceState, serial_number}
 use Rattle.risc_devices.specs.Input.{kind_of, value_of}
 use Rattle.risc_model.specs.declared.event.Event.{Event}
-use Rattle.oberon_format.specs.declared.layout.TheConstants.{MAGIC, FIRST_VERSION}
+use Rattle.oberon_format.specs.declared.layout.TheConstants.{MAGIC, FIRST_VERSION, VERSION_WITH_DISK}
 use Rattle.oberon_format.specs.declared.change.Change.{Change}
 use Rattle.oberon_format.specs.Changes.{changes}
 use Rattle.oberon_format.specs.CheckpointParts.{CheckpointParts, key_bytes, no_checkpoint}
@@ -41,7 +41,7 @@ field_words c =
     ∷ length c.devices.keys
     ∷ []
 
--- what begins a checkpoint in either version: its count, the registers, the fields, the keys and the length of its output
+-- what begins a checkpoint in each version: its count, the registers, the fields, the keys and the length of its output
 unfoldable pub common_bytes : CheckpointParts → List ℕ
 common_bytes c =
     long_bytes c.count
@@ -53,20 +53,24 @@ common_bytes c =
 unfoldable pub change_bytes : Change → List ℕ
 change_bytes change = words_bytes (change.slot ∷ change.page_id ∷ [])
 
--- the parts of the devices that only version 2 has a word for: the rate and the phase of the timer
+-- the parts of the devices that version 1 has no word for: the rate and the phase of the timer
 abbrev pub rate_and_phase : DeviceState → List ℕ
 rate_and_phase d = d.rate ∷ d.phase ∷ []
 
--- the words that begin the tail of a checkpoint in version 2: these, and the number of changes from a table
+-- the words that begin the tail of a checkpoint after version 1: these, and the number of changes from a table
 abbrev pub tail_words : List ℕ → CheckpointParts → List ℕ
 tail_words before c = rate_and_phase c.devices ++ (length (changes before c.table) ∷ [])
 
--- the tail of a checkpoint: its table in version 1; in version 2 these words, and the changes from the table before
+-- the words that end a checkpoint in version 3: the disk's answer
+abbrev pub disk_words : ℕ → DeviceState → List ℕ
+disk_words version d = if version == VERSION_WITH_DISK then d.disk ∷ [] else []
+
+-- the tail of a checkpoint: its table in version 1; later these words, the changes from the table before, and the disk's answer
 unfoldable pub tail_bytes : ℕ → List ℕ → CheckpointParts → List ℕ
 tail_bytes version before c =
     if version == FIRST_VERSION
     then words_bytes c.table
-    else words_bytes (tail_words before c) ++ flat_map change_bytes (changes before c.table)
+    else words_bytes (tail_words before c) ++ flat_map change_bytes (changes before c.table) ++ words_bytes (disk_words version c.devices)
 
 unfoldable pub checkpoint_bytes : ℕ → List ℕ → CheckpointParts → List ℕ
 checkpoint_bytes version before c = common_bytes c ++ tail_bytes version before c

@@ -20,7 +20,24 @@ abbrev pub AreFormed : List CheckpointParts → Type 0
 AreFormed checkpoints = All IsFormed checkpoints
 
 -- its other numbers fit the fields of a file: the count in eight bytes, and the program counter, the stop and the number of bytes
--- sent in four bytes each; and it has no answer of a disk, for which there is no field
+-- sent in four bytes each
+pub record IsWritableWithDisk (c : CheckpointParts) : Type 0 where
+  pub formed : IsFormed c
+  pub count : c.count < 2 ^ 64
+  pub counter : c.cpu.pc < 2 ^ 32
+  pub stop : c.cpu.stop < 2 ^ 32
+  pub sent : length c.sent < 2 ^ 32
+
+-- all numbers of a recording's parts fit the fields of a file, whether they are lawful or not: the pages are pages, and the
+-- numbers of pages, inputs and checkpoints fit in four bytes each. The numbers of an input always fit
+pub record AreWritableWithDisk (r : RecordingParts) : Type 0 where
+  pub pool : ArePages r.pool
+  pub pages : length r.pool < 2 ^ 32
+  pub events : length r.inputs < 2 ^ 32
+  pub few : length r.checkpoints < 2 ^ 32
+  pub checkpoints : All IsWritableWithDisk r.checkpoints
+
+-- the same of a checkpoint without an answer of a disk, for which version 2 has no field
 pub record IsWritable (c : CheckpointParts) : Type 0 where
   pub formed : IsFormed c
   pub count : c.count < 2 ^ 64
@@ -29,8 +46,7 @@ pub record IsWritable (c : CheckpointParts) : Type 0 where
   pub sent : length c.sent < 2 ^ 32
   pub unanswered : IsUnanswered c
 
--- all numbers of a recording's parts fit the fields of a file, whether they are lawful or not: the pages are pages, and the
--- numbers of pages, inputs and checkpoints fit in four bytes each. The numbers of an input always fit
+-- and of parts with such checkpoints
 pub record AreWritable (r : RecordingParts) : Type 0 where
   pub pool : ArePages r.pool
   pub pages : length r.pool < 2 ^ 32

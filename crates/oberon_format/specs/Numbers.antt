@@ -4,13 +4,13 @@ use Rattle.std.specs.Prelude.{◌≡◌, ◌^◌}
 use Rattle.risc_core.specs.declared.branch.TheConstants.{COUNTER_END}
 use Rattle.risc_model.specs.declared.inputs.TheConstants.{MAX_COUNT}
 use Rattle.risc_pages.specs.declared.sizes.TheConstants.{PAGE_SLOTS}
-use Rattle.oberon_format.specs.declared.layout.TheConstants.{MAGIC, FIRST_VERSION, VERSION, HEADER_LEN, PAGE_LEN, EVENT_LEN}
-use Rattle.oberon_format.specs.declared.layout.TheConstants.{CHECKPOINT_LEN, COMMON_LEN, CHANGE_LEN, LONGEST_RECORDING, MAGIC_AT}
+use Rattle.oberon_format.specs.declared.layout.TheConstants.{MAGIC, FIRST_VERSION, VERSION, VERSION_WITH_DISK, HEADER_LEN}
+use Rattle.oberon_format.specs.declared.layout.TheConstants.{PAGE_LEN, EVENT_LEN, CHECKPOINT_LEN, COMMON_LEN, CHANGE_LEN, DISK_LEN, MAGIC_AT}
 use Rattle.oberon_format.specs.declared.layout.TheConstants.{VERSION_AT, PAGES_AT, EVENTS_AT, CHECKPOINTS_AT, LAST_AT, KIND_AT}
 use Rattle.oberon_format.specs.declared.layout.TheConstants.{VALUE_AT, PAGE_ID_AT, REGISTERS_AT, H_AT, PC_AT, FLAGS_AT}
 use Rattle.oberon_format.specs.declared.layout.TheConstants.{STOP_AT, TIMER_AT, SWITCHES_AT, LEDS_AT, MOUSE_AT, SERIAL_AT}
 use Rattle.oberon_format.specs.declared.layout.TheConstants.{WAITING_AT, KEYS_AT, SENT_AT, TABLE_AT, RATE_AT, PHASE_AT}
-use Rattle.oberon_format.specs.declared.layout.TheConstants.{CHANGE_COUNT_AT, CHANGES_AT}
+use Rattle.oberon_format.specs.declared.layout.TheConstants.{CHANGE_COUNT_AT, CHANGES_AT, LONGEST_RECORDING, LONGEST_WITH_DISK}
 use Rattle.oberon_format.specs.declared.ranges.TheConstants.{MAX_CHECKPOINTS, FLAGS_END, MAX_STOP, SWITCHES_END, LEDS_END}
 use Rattle.oberon_format.specs.declared.ranges.TheConstants.{SERIAL_END, MAX_KEYS}
 
@@ -19,14 +19,17 @@ pub record HasLengths : Type 0 where
   pub magic : MAGIC ≡ 1381192271
   pub first_version : FIRST_VERSION ≡ 1
   pub version : VERSION ≡ 2
+  pub version_with_disk : VERSION_WITH_DISK ≡ 3
   pub header_len : HEADER_LEN ≡ 24
   pub page_len : PAGE_LEN ≡ 1024
   pub event_len : EVENT_LEN ≡ 16
   pub checkpoint_len : CHECKPOINT_LEN ≡ 4228
   pub common_len : COMMON_LEN ≡ 132
   pub change_len : CHANGE_LEN ≡ 8
+  pub disk_len : DISK_LEN ≡ 4
   pub page_slots : PAGE_SLOTS ≡ 1024
   pub longest_recording : LONGEST_RECORDING ≡ 118310056
+  pub longest_with_disk : LONGEST_WITH_DISK ≡ 166326444
 
 -- the offsets of the numbers of a header, and of the fields of an event and of a change from their starts
 pub record HasHeaderOffsets : Type 0 where

@@ -1,5 +1,5 @@
 -- The fields of the file that encodes the parts of a recording, lawful or not, and the first fault of such a file.
-use Rattle.std.specs.Prelude.{ℕ, zero, suc, ◌+◌, ◌==◌, if◌then◌else◌, List, [], ◌∷◌, ◌++◌, map, length, slice_index, slice_index_or, Option}
+use Rattle.std.specs.Prelude.{ℕ, zero, suc, ◌+◌, ◌==◌, ◌||◌, if◌then◌else◌, List, [], ◌∷◌, ◌++◌, map, length, slice_index, slice_index_or, Option}
 use Rattle.risc_core.specs.Flags.{flags_number}
 use Rattle.risc_devices.specs.DeviceState.{serial_number}
 use Rattle.risc_devices.specs.declared.disk.TheConstants.{UNANSWERED}
@@ -10,7 +10,7 @@ use Rattle.oberon_format.specs.CheckpointParts.{CheckpointParts, key_bytes}
 use Rattle.oberon_format.specs.declared.fault.Fault.{Fault}
 use Rattle.oberon_format.specs.declared.fault.Fault.TheVariants as fault
 use Rattle.oberon_format.specs.declared.fields.CheckpointFields.{CheckpointFields}
-use Rattle.oberon_format.specs.declared.layout.TheConstants.{MAGIC, FIRST_VERSION, VERSION}
+use Rattle.oberon_format.specs.declared.layout.TheConstants.{MAGIC, FIRST_VERSION, VERSION, VERSION_WITH_DISK}
 use Rattle.oberon_format.specs.Fields.{EventFields, Fields}
 use Rattle.oberon_format.specs.FirstFault.{Rule, each, first_broken}
 use Rattle.oberon_format.specs.Layout.{event_start, checkpoint_len}
@@ -69,11 +69,19 @@ fields_in version r = record {
   page_id = λ k. slice_index (checkpoint_at r k).table;
 }
 
--- checkpoint k has no answer of a disk, for which a file of the current version has no field
-abbrev pub answer_rules : RecordingParts → ℕ → List (Rule Fault)
-answer_rules r k = ((checkpoint_at r k).devices.disk == UNANSWERED, fault.Checkpoint (start_in VERSION r k)) ∷ []
+-- checkpoint k has no answer of a disk, if the version has no field for it
+abbrev pub answer_rules : ℕ → RecordingParts → ℕ → List (Rule Fault)
+answer_rules version r k =
+    (version == VERSION_WITH_DISK || (checkpoint_at r k).devices.disk == UNANSWERED, fault.Checkpoint (start_in version r k)) ∷ []
 
--- the first fault of these parts, if they have one: that of their file in the current version, or else that of the first checkpoint
--- with an answer of a disk. An input that is one breaks the rule of its event
+-- the first fault of these parts in a version, if they have one: that of their file, or else that of the first checkpoint with an
+-- answer of a disk for which the version has no field. An input that is one breaks the rule of its event in such a version
+abbrev pub fault_in : ℕ → RecordingParts → Option Fault
+fault_in version r = first_broken (rules (fields_in version r) ++ each (length r.checkpoints) (answer_rules version r))
+
+-- in version 2, which is that of a recording without a disk, and in version 3
 abbrev pub fault_of_parts : RecordingParts → Option Fault
-fault_of_parts r = first_broken (rules (fields_in VERSION r) ++ each (length r.checkpoints) (answer_rules r))
+fault_of_parts r = fault_in VERSION r
+
+abbrev pub fault_of_parts_with_disk : RecordingParts → Option Fault
+fault_of_parts_with_disk r = fault_in VERSION_WITH_DISK r

@@ -4,23 +4,38 @@ use Rattle.std.specs.Prelude.{ℕ, drop, ◌+◌, Bool, true, ◌&&◌, ◌||◌
 use Rattle.std.specs.List.{list_all}
 use Rattle.risc_core.specs.declared.branch.TheConstants.{COUNTER_END}
 use Rattle.risc_devices.specs.DeviceState.{is_phase}
-use Rattle.risc_devices.specs.InputKind.{is_input, is_mouse}
+use Rattle.risc_devices.specs.InputKind.{is_input_with_disk, is_mouse}
 use Rattle.oberon_format.specs.declared.change.Change.{Change}
 use Rattle.oberon_format.specs.declared.fields.CheckpointFields.{CheckpointFields}
 use Rattle.risc_pages.specs.declared.sizes.TheConstants.{PAGE_SLOTS}
-use Rattle.oberon_format.specs.declared.layout.TheConstants.{FIRST_VERSION, VERSION}
+use Rattle.oberon_format.specs.declared.layout.TheConstants.{FIRST_VERSION, VERSION, VERSION_WITH_DISK}
 use Rattle.risc_model.specs.declared.inputs.TheConstants.{MAX_COUNT}
 use Rattle.oberon_format.specs.declared.ranges.TheConstants.{FLAGS_END, MAX_STOP, SWITCHES_END, LEDS_END, SERIAL_END, MAX_KEYS}
-use Rattle.recording_limits.specs.declared.limits.TheConstants.{MAX_OUTPUT}
+use Rattle.recording_limits.specs.declared.limits.TheConstants.{MAX_EVENTS_WITH_DISK, MAX_OUTPUT, MAX_EVENTS}
+use Rattle.risc_devices.specs.declared.kinds.TheConstants.{DISK}
 use Rattle.oberon_format.specs.Fields.{EventFields}
 
--- the known versions
+-- the versions of a recording without a disk
 abbrev pub is_version : ℕ → Bool
 is_version version = version == FIRST_VERSION || version == VERSION
 
--- an event's count is at least `floor`, that of the event before it, and at most `MAX_COUNT`; its value is one of its kind's
-abbrev pub is_event : ℕ → EventFields → Bool
-is_event floor e = nat_le floor e.count && nat_le e.count MAX_COUNT && is_input e.kind e.value
+-- the known versions, that with a disk among them
+abbrev pub is_version_with_disk : ℕ → Bool
+is_version_with_disk version = version == FIRST_VERSION || (version == VERSION || version == VERSION_WITH_DISK)
+
+-- the most events of a file
+abbrev pub max_events : ℕ → ℕ
+max_events version = if version == VERSION_WITH_DISK then MAX_EVENTS_WITH_DISK else MAX_EVENTS
+
+-- an event's kind is one that the version has: only version 3 has inputs of the disk
+abbrev pub has_kind : ℕ → ℕ → Bool
+has_kind version kind = version == VERSION_WITH_DISK || not (kind == DISK)
+
+-- an event's count is at least `floor`, that of the event before it, and at most `MAX_COUNT`; its value is one of its kind's, and
+-- its kind one of the version's
+abbrev pub is_event : ℕ → ℕ → EventFields → Bool
+is_event version floor e =
+    nat_le floor e.count && nat_le e.count MAX_COUNT && is_input_with_disk e.kind e.value && has_kind version e.kind
 
 -- the count of checkpoint k is 0 for checkpoint 0, and else above the one before and at most `MAX_COUNT`
 abbrev pub is_count : ℕ → ℕ → ℕ → Bool

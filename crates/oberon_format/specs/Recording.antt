@@ -11,7 +11,7 @@ use Rattle.risc_model.specs.InputOrder.{AreOrdered}
 use Rattle.risc_model.specs.MachineState.{IsCpuState}
 use Rattle.risc_model.specs.declared.inputs.TheConstants.{MAX_COUNT}
 use Rattle.oberon_format.specs.declared.ranges.TheConstants.{MAX_CHECKPOINTS}
-use Rattle.recording_limits.specs.declared.limits.TheConstants.{MAX_EVENTS, MAX_OUTPUT, MAX_PAGES}
+use Rattle.recording_limits.specs.declared.limits.TheConstants.{MAX_EVENTS, MAX_EVENTS_WITH_DISK, MAX_OUTPUT, MAX_PAGES}
 use Rattle.oberon_format.specs.CheckpointParts.{CheckpointParts, no_checkpoint, checkpoint_parts}
 use Rattle.oberon_format.specs.declared.checkpoint.Checkpoint.{Checkpoint}
 
@@ -61,8 +61,22 @@ pub record HasNoAnswers (r : RecordingParts) : Type 0 where
 
 -- a recording within all limits: the numbers of pages, inputs and checkpoints are within theirs, there is at least one
 -- checkpoint, inputs are in the order of their counts, the counts of checkpoints begin at 0 and rise, checkpoint 0 has no output,
--- and the output in all is within its limit. It has no answers of a disk. That each input's value is in its kind's range is not
+-- and the output in all is within its limit. It may have answers of a disk. That each input's value is in its kind's range is not
 -- asked here: `Input` itself guarantees it, as `IsInputWithDisk` of `risc_devices` (`specs/InputKind.antt`)
+pub record IsLawfulWithDisk (r : RecordingParts) : Type 0 where
+  pub pages : length r.pool ≤ MAX_PAGES
+  pub pool : ArePages r.pool
+  pub events : length r.inputs ≤ MAX_EVENTS_WITH_DISK
+  pub ordered : AreOrdered r.inputs
+  pub some : 0 < length r.checkpoints
+  pub few : length r.checkpoints ≤ MAX_CHECKPOINTS
+  pub begins : count_at r 0 ≡ 0
+  pub rises : (k : ℕ) → k + 1 < length r.checkpoints → count_at r k < count_at r (k + 1)
+  pub silent : (checkpoint_at r 0).sent ≡ []
+  pub output : length (output_of r.checkpoints) ≤ MAX_OUTPUT
+  pub fit : (k : ℕ) → k < length r.checkpoints → IsFit r.pool (checkpoint_at r k)
+
+-- a lawful recording of a machine without a disk, which has a lower limit of inputs
 pub record IsLawful (r : RecordingParts) : Type 0 where
   pub pages : length r.pool ≤ MAX_PAGES
   pub pool : ArePages r.pool

@@ -1,4 +1,4 @@
-//! Changes of tables of page ids: a checkpoint of version 2 has them instead of its table.
+//! Changes of tables of page ids: a checkpoint of version 2 or 3 has them instead of its table.
 //!
 //! Nothing here allocates memory.
 

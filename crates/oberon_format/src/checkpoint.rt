@@ -12,7 +12,7 @@ use risc_pages::Table;
 /// The state of the machine that is claimed at a count, before the inputs of that count, and its output since the checkpoint
 /// before.
 ///
-/// `Recording::from_parts` says which checkpoints a recording may have.
+/// `Recording::from_parts_with_disk` says which checkpoints a recording may have.
 #[derive(Drop)]
 pub struct Checkpoint {
     /// The number of instructions before it.

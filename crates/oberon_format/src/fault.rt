@@ -25,7 +25,7 @@ pub enum Fault {
     /// 6: a field of a checkpoint is out of its range. The byte is the checkpoint's start.
     #[error("a checkpoint is out of its ranges, at byte {0}")]
     Checkpoint(u64),
-    /// 7: a page id of version 1 is not that of a page: the byte is its offset. Or a change of version 2 is not lawful: the byte
+    /// 7: a page id of version 1 is not that of a page: the byte is its offset. Or a change of version 2 or 3 is not lawful: the byte
     /// is its start.
     #[error("a page id is out of its range, at byte {0}")]
     Page(u64),

@@ -13,8 +13,8 @@ use crate::change::change_count;
 use crate::checkpoint::Checkpoint;
 use crate::fault::Fault;
 use crate::layout::{
-    CHANGE_COUNT_AT, CHANGES_AT, FLAGS_AT, KEYS_AT, LEDS_AT, MOUSE_AT, PC_AT, PHASE_AT, RATE_AT,
-    SENT_AT, SERIAL_AT, STOP_AT, SWITCHES_AT, VERSION, WAITING_AT, word_since_2,
+    CHANGE_COUNT_AT, CHANGES_AT, FIRST_VERSION, FLAGS_AT, KEYS_AT, LEDS_AT, MOUSE_AT, PC_AT,
+    PHASE_AT, RATE_AT, SENT_AT, SERIAL_AT, STOP_AT, SWITCHES_AT, WAITING_AT, word_since_2,
 };
 use crate::number::{u32_at, u64_at};
 use crate::ranges::{
@@ -53,13 +53,13 @@ pub(crate) struct CheckpointFields {
 }
 
 impl CheckpointFields {
-    ghost use Rattle.std.specs.Prelude.{◌≡◌, ◌≤◌, ◌+◌, length};
+    ghost use Rattle.std.specs.Prelude.{◌≡◌, ◌≤◌, ◌+◌, ◌==◌, false, length};
     ghost use Rattle.oberon_format.specs.CheckpointParts.{checkpoint_parts};
     ghost use Rattle.oberon_format.specs.PartFields.{checkpoint_fields};
     ghost use Rattle.oberon_format.specs.Ranges.{in_ranges, are_keys, is_checkpoint};
     ghost use Rattle.oberon_format.specs.ByteFields.{checkpoint_of};
 
-    /// Returns the fields of the checkpoint at an offset of a file. In either version 144 bytes are there, though not all of them
+    /// Returns the fields of the checkpoint at an offset of a file. In each version 144 bytes are there, though not all of them
     /// are read.
     pub(crate) fn of_bytes(bytes: &[u8], offset: usize) -> CheckpointFields
         requires { offset + CHANGES_AT ≤ length bytes.now }
@@ -85,9 +85,14 @@ impl CheckpointFields {
         }
     }
 
-    /// Returns the fields that a checkpoint has in the current version, after a table.
-    pub(crate) fn of_parts(before: &Table, checkpoint: &Checkpoint) -> CheckpointFields
-        ensures { result ≡ checkpoint_fields VERSION before.now.numbers (checkpoint_parts checkpoint.now) }
+    /// Returns the fields that a checkpoint has in a version after the first, after a table.
+    pub(crate) fn of_parts(
+        version: u32,
+        before: &Table,
+        checkpoint: &Checkpoint,
+    ) -> CheckpointFields
+        requires { (version == FIRST_VERSION) ≡ false }
+        ensures { result ≡ checkpoint_fields version before.now.numbers (checkpoint_parts checkpoint.now) }
     {
         let devices = &checkpoint.devices;
         CheckpointFields {

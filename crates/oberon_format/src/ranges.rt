@@ -6,11 +6,13 @@
 //! end of program counters.
 
 ghost use Rattle.std.specs.Prelude.{◌≡◌, ◌≤◌};
-ghost use Rattle.risc_devices.specs.InputKind.{is_input};
-ghost use Rattle.oberon_format.specs.Ranges.{is_count, is_output};
+ghost use Rattle.risc_devices.specs.InputKind.{is_input_with_disk};
+ghost use Rattle.oberon_format.specs.Ranges.{has_kind, is_count, is_output};
 
+use crate::layout::VERSION_WITH_DISK;
 use recording_limits::{LAST_CHECKPOINT, MAX_OUTPUT};
 use risc_devices::Input;
+use risc_devices::kinds::DISK;
 use risc_model::MAX_COUNT;
 
 /// The largest number of checkpoints, checkpoint 0 among them.
@@ -30,10 +32,17 @@ pub(crate) const SERIAL_END: u32 = 512;
 pub(crate) const MAX_KEYS: usize = 16;
 
 /// Reports whether a number is that of a kind of input that may have the value.
-pub(crate) fn is_input(kind: u32, value: u32) -> bool
-    ensures { result ≡ is_input kind value }
+pub(crate) fn is_input_with_disk(kind: u32, value: u32) -> bool
+    ensures { result ≡ is_input_with_disk kind value }
 {
-    kind < 6 && Input::new(kind as u8, value).is_ok()
+    kind < 7 && Input::new_with_disk(kind as u8, value).is_ok()
+}
+
+/// Reports whether a version has inputs of a kind: only version 3 has inputs of the disk.
+pub(crate) fn has_kind(version: u32, kind: u32) -> bool
+    ensures { result ≡ has_kind version kind }
+{
+    version == VERSION_WITH_DISK || kind != DISK as u32
 }
 
 /// Reports whether the count of checkpoint k is 0 if k is 0, and otherwise above the count before and at most `MAX_COUNT`.

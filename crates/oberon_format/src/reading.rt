@@ -4,18 +4,18 @@
 //! test. So a faulty file is never answered with out of memory. The first walk ends where the output begins, whose offset it
 //! hands to the second.
 
-ghost use Rattle.std.specs.Prelude.{◌≡◌, ◌≤◌, ◌<◌, ◌+◌, ◌*◌, ℕ, true, length, IfOk, map};
+ghost use Rattle.std.specs.Prelude.{◌≡◌, ◌≤◌, ◌<◌, ◌+◌, ◌*◌, ◌==◌, ℕ, true, false, length, IfOk, map};
 ghost use Rattle.oberon_format.specs.CheckpointParts.{checkpoint_parts};
 ghost use Rattle.oberon_format.specs.Layout.{word_at, version, pages, events, checkpoints, page_id_offset, change_offset};
-ghost use Rattle.oberon_format.specs.Layout.{change_count, start, output_offset};
+ghost use Rattle.oberon_format.specs.Layout.{change_count, checkpoint_len, start, output_offset};
 ghost use Rattle.oberon_format.specs.Ranges.{in_ranges, are_keys};
 ghost use Rattle.oberon_format.specs.Rules.{prior_page_id};
 ghost use Rattle.oberon_format.specs.inner.Tested.{IsSized, Meets, HasPageIds, IsChanged};
-ghost use Rattle.oberon_format.specs.Text.{Text};
+ghost use Rattle.oberon_format.specs.Text.{Text, TextWithDisk};
 ghost use Rattle.oberon_format.specs.inner.Decoded.{EachAt, IsEvent, IsEventAt, checkpoint_from, checkpoints_at, cpu_at};
 ghost use Rattle.oberon_format.specs.inner.Decoded.{devices_at, pages_at, words_from};
-ghost use Rattle.oberon_format.specs.ByteFields.{fields_of, checkpoint_of, change_of, page_id_of, AnswersBytes};
-ghost use Rattle.risc_devices.specs.InputKind.{IsInput};
+ghost use Rattle.oberon_format.specs.ByteFields.{fields_of, checkpoint_of, change_of, page_id_of, AnswersBytes, AnswersBytesWithDisk};
+ghost use Rattle.risc_devices.specs.InputKind.{IsInputWithDisk};
 ghost use Rattle.risc_model.specs.MachineState.{cpu_state};
 
 use crate::change::Change;
@@ -23,28 +23,41 @@ use crate::checkpoint::Checkpoint;
 use crate::fault::Fault;
 use crate::formed::{all_formed_law, bytes_fit, words_fit};
 use crate::layout::{
-    CHANGE_COUNT_AT, CHANGE_LEN, CHANGES_AT, CHECKPOINT_LEN, EVENT_LEN, FLAGS_AT, H_AT, HEADER_LEN,
-    KEYS_AT, KIND_AT, LEDS_AT, MOUSE_AT, PC_AT, PHASE_AT, RATE_AT, REGISTERS_AT, SENT_AT,
-    SERIAL_AT, STOP_AT, SWITCHES_AT, TABLE_AT, TIMER_AT, VALUE_AT, VERSION, WAITING_AT,
-    checkpoint_count, checkpoint_len, event_count, event_start, first_checkpoint, is_first_version,
-    page_count, page_offset, word_since_2,
+    CHANGE_COUNT_AT, CHANGE_LEN, CHANGES_AT, CHECKPOINT_LEN, EVENT_LEN, FIRST_VERSION, FLAGS_AT,
+    H_AT, HEADER_LEN, KEYS_AT, KIND_AT, LEDS_AT, MOUSE_AT, PC_AT, PHASE_AT, RATE_AT, REGISTERS_AT,
+    SENT_AT, SERIAL_AT, STOP_AT, SWITCHES_AT, TABLE_AT, TIMER_AT, VALUE_AT, WAITING_AT,
+    checkpoint_count, checkpoint_len, disk_at, event_count, event_start, first_checkpoint,
+    is_first_version, page_count, page_offset, word_since_2,
 };
 use crate::number::{u32_at, u64_at};
 use crate::recording::Recording;
-use crate::rules::test_file;
+use crate::rules::{test_file, version_fault};
 use risc_devices::{Devices, Input};
 use risc_model::{Cpu, Event, Flags, Inputs};
 use risc_pages::{PAGE_SLOTS, Page, Pool, Table};
 use std::alloc::{AllocError, Global};
 
-/// Returns the recording of a file, or its first fault.
+/// Returns the recording of a file without a disk, or its first fault. A file of version 3 is refused for its version.
+///
+/// Returns `Memory` only for a file without a fault, as `read_with_disk` does.
+pub fn read(alloc: Global, bytes: &[u8]) -> Result<Recording, Fault>
+    // A file without a fault yields its recording, or an allocation failed; any other yields its first fault.
+    ensures { AnswersBytes bytes.now (Text bytes.now) result }
+{
+    if let Some(fault) = version_fault(bytes) {
+        return Err(fault);
+    }
+    read_with_disk(alloc, bytes)
+}
+
+/// Returns the recording of a file of any version, or its first fault.
 ///
 /// Returns `Memory` only for a file without a fault: the whole file is tested before anything is allocated, and the test
 /// allocates nothing.
 #[tactic(auto, using(crate::proofs::RuleLemmas::none_meets))]
-pub fn read(alloc: Global, bytes: &[u8]) -> Result<Recording, Fault>
+pub fn read_with_disk(alloc: Global, bytes: &[u8]) -> Result<Recording, Fault>
     // A file without a fault yields its recording, or an allocation failed; any other yields its first fault.
-    ensures { AnswersBytes bytes.now (Text bytes.now) result }
+    ensures { AnswersBytesWithDisk bytes.now (TextWithDisk bytes.now) result }
 {
     let output = test_file(bytes)?;
     match recording_of(alloc, bytes, output) {
@@ -57,7 +70,7 @@ pub fn read(alloc: Global, bytes: &[u8]) -> Result<Recording, Fault>
 fn recording_of(alloc: Global, bytes: &[u8], output: usize) -> Result<Recording, AllocError>
     requires meets { Meets bytes.now }
     requires output { output ≡ output_offset bytes.now }
-    ensures { IfOk result (λ r. Text bytes.now r) }
+    ensures { IfOk result (λ r. TextWithDisk bytes.now r) }
 {
     let pool = pool_of(alloc, bytes)?;
     let inputs = inputs_of(alloc, bytes)?;
@@ -96,14 +109,14 @@ fn pool_of(alloc: Global, bytes: &[u8]) -> Result<Pool, AllocError>
     Ok(pool)
 }
 
-#[tactic(auto, using(crate::proofs::RuleLemmas::kind_small))]
+#[tactic(auto, using(risc_devices::proofs::InputLemmas::kind_fits))]
 fn event_of(bytes: &[u8], offset: usize) -> Event
     requires room { offset + EVENT_LEN ≤ length bytes.now }
-    requires input { IsInput (word_at bytes.now (offset + KIND_AT)) (word_at bytes.now (offset + VALUE_AT)) }
+    requires input { IsInputWithDisk (word_at bytes.now (offset + KIND_AT)) (word_at bytes.now (offset + VALUE_AT)) }
     ensures { IsEvent bytes.now offset result }
 {
     let kind = u32_at(bytes, offset + KIND_AT) as u8;
-    let input = Input::new(kind, u32_at(bytes, offset + VALUE_AT)).unwrap();
+    let input = Input::new_with_disk(kind, u32_at(bytes, offset + VALUE_AT)).unwrap();
     Event {
         count: u64_at(bytes, offset),
         input,
@@ -153,7 +166,9 @@ fn cpu_of(bytes: &[u8], offset: usize) -> Cpu
 
 /// Returns the devices of the checkpoint at an offset.
 fn devices_of(bytes: &[u8], offset: usize) -> Devices
+    requires header { HEADER_LEN ≤ length bytes.now }
     requires room { offset + CHANGES_AT ≤ length bytes.now }
+    requires whole { offset + checkpoint_len (version bytes.now) (change_count bytes.now offset) ≤ length bytes.now }
     requires ranges { in_ranges (checkpoint_of bytes.now offset) ≡ true }
     requires keys { are_keys (checkpoint_of bytes.now offset) ≡ true }
     ensures { result ≡ devices_at bytes.now offset }
@@ -170,9 +185,10 @@ fn devices_of(bytes: &[u8], offset: usize) -> Devices
         &bytes[offset + KEYS_AT..offset + KEYS_AT + waiting],
     )
     .unwrap()
+    .with_disk(disk_at(bytes, offset))
 }
 
-/// Changes a table into that of checkpoint k, which is at an offset. In version 2 it has to be the table before.
+/// Changes a table into that of checkpoint k, which is at an offset. In a later version it has to be the table before.
 #[tactic(auto, using(crate::proofs::Room::whole_there, crate::proofs::Room::changes_there, crate::proofs::ReadRules::slots_inside, crate::proofs::RuleLemmas::later_by))]
 fn advance_table(bytes: &[u8], k: usize, offset: usize, table: &mut Table)
     requires meets { Meets bytes.now }
@@ -198,11 +214,11 @@ fn read_table(bytes: &[u8], offset: usize, table: &mut Table)
     }
 }
 
-/// Applies the changes of the checkpoint of version 2 at an offset.
+/// Applies the changes of the checkpoint of a later version at an offset.
 #[tactic(auto, using(crate::proofs::ChangeLemmas::after_none))]
 fn change_table(bytes: &[u8], offset: usize, table: &mut Table)
     requires header { HEADER_LEN ≤ length bytes.now }
-    requires version { version bytes.now ≡ VERSION }
+    requires version { (version bytes.now == FIRST_VERSION) ≡ false }
     requires room { change_offset offset (change_count bytes.now offset) ≤ length bytes.now }
     requires slots { (i : ℕ) → i < change_count bytes.now offset → (change_of bytes.now offset i).slot < PAGE_SLOTS }
     ensures { IsChanged bytes.now offset (change_count bytes.now offset) table.old.numbers table.new.numbers }
@@ -222,7 +238,9 @@ fn checkpoint_of(
     from: usize,
     table: &Table,
 ) -> Result<Checkpoint, AllocError>
+    requires header { HEADER_LEN ≤ length bytes.now }
     requires room { offset + CHANGES_AT ≤ length bytes.now }
+    requires whole { offset + checkpoint_len (version bytes.now) (change_count bytes.now offset) ≤ length bytes.now }
     requires ranges { in_ranges (checkpoint_of bytes.now offset) ≡ true }
     requires keys { are_keys (checkpoint_of bytes.now offset) ≡ true }
     requires output { from + word_at bytes.now (offset + SENT_AT) ≤ length bytes.now }

@@ -1,7 +1,7 @@
-//! The rules of a file, tested in their order. Nothing here allocates memory: the tables of version 2 are one table, changed in
+//! The rules of a file, tested in their order. Nothing here allocates memory: the tables of versions 2 and 3 are one table, changed in
 //! place.
 
-ghost use Rattle.std.specs.Prelude.{◌≡◌, ◌≤◌, ◌<◌, ◌+◌, ◌==◌, length, slice_index, Some, None};
+ghost use Rattle.std.specs.Prelude.{◌≡◌, ◌≤◌, ◌<◌, ◌+◌, ◌==◌, false, length, slice_index, Some, None};
 ghost use Rattle.std.specs.Option.{IfNone};
 ghost use Rattle.oberon_format.specs.FirstFault.{first_broken, each};
 ghost use Rattle.oberon_format.specs.Layout.{word_at, page_id_offset, version, pages, events, checkpoints, event_offset};
@@ -9,7 +9,7 @@ ghost use Rattle.oberon_format.specs.Layout.{change_offset, start, output_offset
 ghost use Rattle.oberon_format.specs.Fields.{sent_below};
 ghost use Rattle.oberon_format.specs.Ranges.{is_event};
 ghost use Rattle.oberon_format.specs.Rules.{named_len, header_rules, event_floor, event_rules, page_id_rules, change_rules};
-ghost use Rattle.oberon_format.specs.Rules.{count_before, end_rules};
+ghost use Rattle.oberon_format.specs.Rules.{count_before, end_rules, version_rules};
 ghost use Rattle.oberon_format.specs.inner.Tested.{IsSized, HasPageIds, IsChanged};
 ghost use Rattle.oberon_format.specs.inner.Tested.{AreTested, IsChangedTested, IsTested, IsWholeTested};
 ghost use Rattle.oberon_format.specs.ByteFields.{fields_of, event_of, change_of, page_id_before};
@@ -19,13 +19,14 @@ use crate::fault::Fault;
 use crate::fields::{CheckpointFields, fields_fault};
 use crate::layout::{
     CHANGE_LEN, CHANGES_AT, CHECKPOINT_LEN, EVENT_LEN, FIRST_VERSION, HEADER_LEN, KIND_AT, LAST_AT,
-    MAGIC, MAGIC_AT, TABLE_AT, VALUE_AT, VERSION, VERSION_AT, changed_len, checkpoint_count,
-    checkpoint_len, event_count, event_start, first_checkpoint, is_first_version, page_count,
+    MAGIC, MAGIC_AT, TABLE_AT, VALUE_AT, VERSION, VERSION_AT, VERSION_WITH_DISK, checkpoint_count,
+    checkpoint_len, event_count, event_start, first_checkpoint, has_disk, is_first_version,
+    page_count,
 };
 use crate::limits::limits_fault;
 use crate::number::{u32_at, u64_at};
-use crate::ranges::{MAX_CHECKPOINTS, is_input};
-use recording_limits::{MAX_EVENTS, MAX_OUTPUT, MAX_PAGES};
+use crate::ranges::{MAX_CHECKPOINTS, has_kind, is_input_with_disk};
+use recording_limits::{MAX_EVENTS_WITH_DISK, MAX_OUTPUT, MAX_PAGES};
 use risc_model::MAX_COUNT;
 use risc_pages::{PAGE_SLOTS, Table};
 
@@ -34,7 +35,7 @@ use risc_pages::{PAGE_SLOTS, Table};
 fn named_len(bytes: &[u8]) -> usize
     requires header { HEADER_LEN ≤ length bytes.now }
     requires pages { pages bytes.now ≤ MAX_PAGES }
-    requires events { events bytes.now ≤ MAX_EVENTS }
+    requires events { events bytes.now ≤ MAX_EVENTS_WITH_DISK }
     requires checkpoints { checkpoints bytes.now ≤ MAX_CHECKPOINTS }
     ensures { result ≡ named_len (fields_of bytes.now) }
 {
@@ -44,6 +45,24 @@ fn named_len(bytes: &[u8]) -> usize
     } else {
         first
     }
+}
+
+/// Returns the first fault of a file without a disk that comes before all others: with a disk, it is that of the version.
+pub(crate) fn version_fault(bytes: &[u8]) -> Option<Fault>
+    ensures { result ≡ first_broken (version_rules (fields_of bytes.now)) }
+{
+    let len = bytes.len();
+    if len < HEADER_LEN {
+        return Some(Fault::Short(len as u64));
+    }
+    let magic = u32_at(bytes, MAGIC_AT);
+    if magic != MAGIC {
+        return Some(Fault::Magic(MAGIC_AT as u64));
+    }
+    if has_disk(bytes) {
+        return Some(Fault::Version(VERSION_AT as u64));
+    }
+    None
 }
 
 /// Returns the first fault of the header, and of the length that it asks for.
@@ -59,13 +78,13 @@ fn header_fault(bytes: &[u8]) -> Option<Fault>
         return Some(Fault::Magic(MAGIC_AT as u64));
     }
     let version = u32_at(bytes, VERSION_AT);
-    if version != FIRST_VERSION && version != VERSION {
+    if version != FIRST_VERSION && version != VERSION && version != VERSION_WITH_DISK {
         return Some(Fault::Version(VERSION_AT as u64));
     }
     let pages = page_count(bytes) as usize;
     let events = event_count(bytes) as usize;
     let checkpoints = checkpoint_count(bytes) as usize;
-    if let Some(fault) = limits_fault(pages, events, checkpoints) {
+    if let Some(fault) = limits_fault(version, pages, events, checkpoints) {
         return Some(fault);
     }
     if u32_at(bytes, LAST_AT) != 0 {
@@ -80,7 +99,7 @@ fn header_fault(bytes: &[u8]) -> Option<Fault>
 /// Returns the count of the event before event i, or 0 for event 0.
 fn event_floor(bytes: &[u8], i: usize) -> u64
     requires pages { pages bytes.now ≤ MAX_PAGES }
-    requires events { i ≤ MAX_EVENTS }
+    requires events { i ≤ MAX_EVENTS_WITH_DISK }
     requires room { event_offset bytes.now i ≤ length bytes.now }
     ensures { result ≡ event_floor (fields_of bytes.now) i }
 {
@@ -93,16 +112,16 @@ fn event_floor(bytes: &[u8], i: usize) -> u64
 
 /// Reports whether the event at an offset is in its ranges, and its count is at least `floor`.
 fn is_event(bytes: &[u8], offset: usize, floor: u64) -> bool
-    requires { offset + EVENT_LEN ≤ length bytes.now }
-    ensures { result ≡ is_event floor (event_of bytes.now offset) }
+    requires header { HEADER_LEN ≤ offset }
+    requires room { offset + EVENT_LEN ≤ length bytes.now }
+    ensures { result ≡ is_event (version bytes.now) floor (event_of bytes.now offset) }
 {
     let count = u64_at(bytes, offset);
+    let kind = u32_at(bytes, offset + KIND_AT);
     floor <= count
         && count <= MAX_COUNT
-        && is_input(
-            u32_at(bytes, offset + KIND_AT),
-            u32_at(bytes, offset + VALUE_AT),
-        )
+        && is_input_with_disk(kind, u32_at(bytes, offset + VALUE_AT))
+        && has_kind(u32_at(bytes, VERSION_AT), kind)
 }
 
 #[tactic(auto, using(crate::proofs::Room::events_there, crate::proofs::RuleLemmas::each_none, crate::proofs::RuleLemmas::each_more))]
@@ -137,7 +156,7 @@ fn page_ids_fault(bytes: &[u8], offset: usize, pages: u32) -> Option<Fault>
     None
 }
 
-/// Returns the first fault of the changes of a checkpoint of version 2. Without one, the table before it becomes its own.
+/// Returns the first fault of the changes of a checkpoint of a later version. Without one, the table before it becomes its own.
 #[tactic(auto, using(crate::proofs::ChangeLemmas::after_none, crate::proofs::RuleLemmas::each_none))]
 fn changes_fault(
     bytes: &[u8],
@@ -191,7 +210,7 @@ fn whole_checkpoint(
     }
 }
 
-/// Returns the fields of checkpoint k of a file of version 2, or its first fault. The table before it becomes its own.
+/// Returns the fields of checkpoint k of a file of a later version, or its first fault. The table before it becomes its own.
 fn changed_checkpoint(
     bytes: &[u8],
     k: usize,
@@ -200,7 +219,7 @@ fn changed_checkpoint(
     sent: u64,
     table: &mut Table,
 ) -> Result<CheckpointFields, Fault>
-    requires version { version bytes.now ≡ VERSION }
+    requires version { (version bytes.now == FIRST_VERSION) ≡ false }
     requires offset { offset ≡ start bytes.now k }
     requires room { offset ≤ length bytes.now }
     requires header { HEADER_LEN ≤ length bytes.now }
@@ -218,7 +237,7 @@ fn changed_checkpoint(
     if let Some(fault) = fields_fault(offset, k, before, sent, &fields) {
         return Err(fault);
     }
-    if room < changed_len(fields.changes) {
+    if room < checkpoint_len(bytes, fields.changes) {
         return Err(Fault::Short(bytes.len() as u64));
     }
     match changes_fault(bytes, offset, fields.changes, page_count(bytes), table) {

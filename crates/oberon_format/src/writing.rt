@@ -1,48 +1,100 @@
 //! Writing of a recording, front to back.
 
-ghost use Rattle.std.specs.Prelude.{◌≡◌, ◌++◌, ◌+◌, ◌≤◌, length, IfOk, OnOk};
+ghost use Rattle.std.specs.Prelude.{◌≡◌, ◌++◌, ◌+◌, ◌≤◌, ◌==◌, ◌↔◌, false, true, length, All, IfOk, IsTrue, OnOk};
 ghost use Rattle.std.specs.List.{flat_map};
 ghost use Rattle.oberon_format.specs.Changes.{changes};
 ghost use Rattle.oberon_format.specs.CheckpointParts.{checkpoint_parts};
 ghost use Rattle.oberon_format.specs.PartFields.{start_in};
+ghost use Rattle.oberon_format.specs.Ranges.{is_version_with_disk};
 ghost use Rattle.oberon_format.specs.Recording.{output_of};
 ghost use Rattle.oberon_format.specs.Encoding.{word_bytes, long_bytes, words_bytes, event_bytes, field_words, common_bytes};
-ghost use Rattle.oberon_format.specs.Encoding.{change_bytes, checkpoint_bytes, checkpoints_bytes, header_bytes};
-ghost use Rattle.oberon_format.specs.Text.{IsEncoding};
+ghost use Rattle.oberon_format.specs.Encoding.{change_bytes, checkpoint_bytes, checkpoints_bytes, disk_words, header_bytes};
+ghost use Rattle.oberon_format.specs.Text.{IsEncoding, IsPlain};
+ghost use Rattle.risc_model.specs.DiskInputs.{IsOfDisk};
 
 use crate::change::change_count;
 use crate::checkpoint::{Checkpoint, table_before};
 use crate::fields::key_bytes;
-use crate::layout::{MAGIC, VERSION, changed_len, event_start};
+use crate::layout::{FIRST_VERSION, MAGIC, VERSION, VERSION_WITH_DISK, changed_len, event_start};
 use crate::recording::Recording;
 use byteorder::{ByteOrder, LittleEndian};
-use recording_limits::MAX_OUTPUT;
+use recording_limits::{MAX_EVENTS, MAX_OUTPUT};
+use risc_devices::kinds::DISK;
+use risc_devices::{Devices, UNANSWERED};
 use risc_model::Event;
 use risc_pages::{PAGE_SLOTS, Pool, Table};
 use std::alloc::{AllocError, Global};
 
-/// Returns the one file of a recording in version 2. Its capacity is allocated at once.
+/// Returns the file of a recording: in version 2 if that has a field for all that the recording has, and else in version 3.
+///
+/// Version 2 has no answers of a disk, and at most 1,000,000 inputs.
 pub fn write(alloc: Global, r: &Recording) -> Result<Vec<u8>, AllocError>
-    ensures { IfOk result (λ bytes. IsEncoding VERSION bytes.items r.now) }
+    ensures plain { IsPlain r.now → IfOk result (λ bytes. IsEncoding VERSION bytes.items r.now) }
+    ensures others { ¬ (IsPlain r.now) → IfOk result (λ bytes. IsEncoding VERSION_WITH_DISK bytes.items r.now) }
 {
-    let mut out = Vec::with_capacity(alloc, encoded_len(r))?;
-    push_header(&mut out, r)?;
+    if is_plain(r) {
+        written_in(alloc, VERSION, r)
+    } else {
+        written_in(alloc, VERSION_WITH_DISK, r)
+    }
+}
+
+/// Reports whether version 2 has a field for all that a recording has.
+fn is_plain(r: &Recording) -> bool
+    ensures { IsTrue result ↔ IsPlain r.now }
+{
+    let events = r.inputs().events();
+    events.len() <= MAX_EVENTS as usize && are_no_answers(events) && are_unanswered(r.checkpoints())
+}
+
+fn are_no_answers(inputs: &[Event]) -> bool
+    ensures { IsTrue result ↔ All (λ e. ¬ (IsOfDisk e)) inputs.now }
+{
+    inputs.iter().all(|event| event.input.kind() != DISK)
+}
+
+fn are_unanswered(checkpoints: &[Checkpoint]) -> bool
+    ensures { IsTrue result ↔ All (λ c. c.devices.disk ≡ UNANSWERED) checkpoints.now }
+{
+    checkpoints
+        .iter()
+        .all(|checkpoint| checkpoint.devices.disk() == UNANSWERED)
+}
+
+/// Returns the one file of a recording in version 3.
+pub fn write_with_disk(alloc: Global, r: &Recording) -> Result<Vec<u8>, AllocError>
+    ensures { IfOk result (λ bytes. IsEncoding VERSION_WITH_DISK bytes.items r.now) }
+{
+    written_in(alloc, VERSION_WITH_DISK, r)
+}
+
+/// Returns the file of a recording in a version after the first that has a field for all that the recording has. Its capacity is
+/// allocated at once.
+fn written_in(alloc: Global, version: u32, r: &Recording) -> Result<Vec<u8>, AllocError>
+    requires known { is_version_with_disk version ≡ true }
+    requires later { (version == FIRST_VERSION) ≡ false }
+    requires plain { (version == VERSION_WITH_DISK) ≡ false → IsPlain r.now }
+    ensures { IfOk result (λ bytes. IsEncoding version bytes.items r.now) }
+{
+    let mut out = Vec::with_capacity(alloc, encoded_len(version, r))?;
+    push_header(&mut out, version, r)?;
     push_pool(&mut out, r.pool())?;
     push_events(&mut out, r.inputs().events())?;
-    push_checkpoints(&mut out, r)?;
+    push_checkpoints(&mut out, version, r)?;
     push_output(&mut out, r)?;
     Ok(out)
 }
 
 #[tactic(auto, using(crate::proofs::ChangeLemmas::changes_few, crate::proofs::PartLemmas::start_in_first, crate::proofs::PartRules::offset_small))]
-fn encoded_len(r: &Recording) -> usize
-    ensures { result ≡ start_in VERSION r.now (length r.now.checkpoints) + length (output_of r.now.checkpoints) }
+fn encoded_len(version: u32, r: &Recording) -> usize
+    requires { (version == FIRST_VERSION) ≡ false }
+    ensures { result ≡ start_in version r.now (length r.now.checkpoints) + length (output_of r.now.checkpoints) }
 {
     let zeros = Table::zeros();
     let mut len = event_start(r.pool().len(), r.inputs().events().len());
     for k in 0..r.count() {
         let before = table_before(r.checkpoints(), k as usize, &zeros);
-        len += changed_len(change_count(before, &r.checkpoint(k).table));
+        len += changed_len(version, change_count(before, &r.checkpoint(k).table));
     }
     len + r.output_len()
 }
@@ -77,12 +129,12 @@ fn push_words(out: &mut Vec<u8>, numbers: &[u32]) -> Result<(), AllocError>
 }
 
 #[tactic(auto, unfolding(crate::specs::Encoding::header_bytes))]
-fn push_header(out: &mut Vec<u8>, r: &Recording) -> Result<(), AllocError>
-    ensures { OnOk result (out.new.items ≡ out.old.items ++ header_bytes VERSION r.now) }
+fn push_header(out: &mut Vec<u8>, version: u32, r: &Recording) -> Result<(), AllocError>
+    ensures { OnOk result (out.new.items ≡ out.old.items ++ header_bytes version r.now) }
 {
     let pages = r.pool().len();
     let events = r.inputs().events().len() as u32;
-    push_words(out, &[MAGIC, VERSION, pages, events, r.count(), 0])
+    push_words(out, &[MAGIC, version, pages, events, r.count(), 0])
 }
 
 fn push_pool(out: &mut Vec<u8>, pool: &Pool) -> Result<(), AllocError>
@@ -131,7 +183,7 @@ fn field_words(checkpoint: &Checkpoint) -> [u32; 10]
     ]
 }
 
-/// Appends what a checkpoint has in both versions.
+/// Appends what a checkpoint has in each version.
 #[tactic(auto, unfolding(crate::specs::Encoding::common_bytes))]
 fn push_common(out: &mut Vec<u8>, checkpoint: &Checkpoint) -> Result<(), AllocError>
     requires { length checkpoint.now.sent.items ≤ MAX_OUTPUT }
@@ -165,29 +217,45 @@ fn push_change(out: &mut Vec<u8>, slot: u32, page_id: u32) -> Result<(), AllocEr
 /// Appends a checkpoint after a table, without its output.
 fn push_checkpoint(
     out: &mut Vec<u8>,
+    version: u32,
     before: &Table,
     checkpoint: &Checkpoint,
 ) -> Result<(), AllocError>
-    requires { length checkpoint.now.sent.items ≤ MAX_OUTPUT }
+    requires version { (version == FIRST_VERSION) ≡ false }
+    requires sent { length checkpoint.now.sent.items ≤ MAX_OUTPUT }
     ensures { OnOk result (out.new.items
-        ≡ out.old.items ++ checkpoint_bytes VERSION before.now.numbers (checkpoint_parts checkpoint.now)) }
+        ≡ out.old.items ++ checkpoint_bytes version before.now.numbers (checkpoint_parts checkpoint.now)) }
 {
     let devices = &checkpoint.devices;
     let count = change_count(before, &checkpoint.table);
     push_common(out, checkpoint)?;
     push_words(out, &[devices.rate(), devices.phase(), count])?;
-    push_changes(out, before, &checkpoint.table)
+    push_changes(out, before, &checkpoint.table)?;
+    push_disk(out, version, devices)
+}
+
+/// Appends the disk's answer, if the version has one.
+fn push_disk(out: &mut Vec<u8>, version: u32, devices: &Devices) -> Result<(), AllocError>
+    ensures { OnOk result (out.new.items ≡ out.old.items ++ words_bytes (disk_words version devices.now)) }
+{
+    if version == VERSION_WITH_DISK {
+        push_words(out, &[devices.disk()])
+    } else {
+        Ok(())
+    }
 }
 
 #[tactic(auto, unfolding(crate::specs::Encoding::checkpoints_bytes))]
-fn push_checkpoints(out: &mut Vec<u8>, r: &Recording) -> Result<(), AllocError>
+fn push_checkpoints(out: &mut Vec<u8>, version: u32, r: &Recording) -> Result<(), AllocError>
+    requires { (version == FIRST_VERSION) ≡ false }
     ensures { OnOk result (out.new.items
-        ≡ out.old.items ++ checkpoints_bytes VERSION r.now.checkpoints (length r.now.checkpoints)) }
+        ≡ out.old.items ++ checkpoints_bytes version r.now.checkpoints (length r.now.checkpoints)) }
 {
     let zeros = Table::zeros();
     for k in 0..r.count() {
         push_checkpoint(
             out,
+            version,
             table_before(r.checkpoints(), k as usize, &zeros),
             r.checkpoint(k),
         )?;

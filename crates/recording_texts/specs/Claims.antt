@@ -22,7 +22,7 @@ unfoldable pub device_bytes : Claim → List ℕ
 device_bytes claim =
     words_bytes (claim.timer ∷ claim.switches ∷ claim.leds ∷ claim.mouse ∷ claim.serial ∷ []) ++ key_bytes claim.keys.now
 
--- the 132 bytes that begin a checkpoint in both versions
+-- the 132 bytes that begin a checkpoint in each version
 unfoldable pub fields_bytes : Claim → List ℕ
 fields_bytes claim =
     long_bytes claim.count ++ processor_bytes claim ++ device_bytes claim ++ word_bytes (length_number (length claim.sent.now))
@@ -43,8 +43,12 @@ unfoldable pub changes_below : List ℕ → List ℕ → ℕ → List ℕ
 changes_below before after zero = []
 changes_below before after (suc n) = changes_below before after n ++ change_at before after n
 
--- a checkpoint of version 2, after one with this table: the rate, the phase, and the changes with their number
-unfoldable pub second_bytes : List ℕ → Claim → List ℕ
-second_bytes before claim =
+-- the disk's answer, in version 3
+abbrev pub disk_bytes : ℕ → ℕ → List ℕ
+disk_bytes version disk = if version == 3 then word_bytes disk else []
+
+-- a checkpoint of version 2 or 3, after one with this table: the rate, the phase, the changes with their number, and the answer
+unfoldable pub later_bytes : ℕ → List ℕ → Claim → List ℕ
+later_bytes version before claim =
     let changes : List ℕ = changes_below before (page_ids claim) 1024 in
-    fields_bytes claim ++ words_bytes (claim.rate ∷ claim.phase ∷ length changes / 8 ∷ []) ++ changes
+    fields_bytes claim ++ words_bytes (claim.rate ∷ claim.phase ∷ length changes / 8 ∷ []) ++ changes ++ disk_bytes version claim.disk

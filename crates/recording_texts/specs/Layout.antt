@@ -3,7 +3,7 @@ use Rattle.std.specs.Prelude.{ℕ, List, [], ◌∷◌, ◌++◌, length, replic
 use Rattle.std.specs.List.{flat_map}
 use Rattle.recording_texts.specs.Bytes.{length_number, long_bytes, padded, words_bytes}
 use Rattle.recording_texts.specs.Header.{header_bytes}
-use Rattle.recording_texts.specs.Claims.{first_bytes, page_ids, second_bytes}
+use Rattle.recording_texts.specs.Claims.{first_bytes, later_bytes, page_ids}
 use Rattle.recording_texts.specs.declared.claim.Claim.{Claim}
 use Rattle.recording_texts.specs.declared.sketch.Event.{Event}
 use Rattle.recording_texts.specs.declared.sketch.Sketch.{Sketch}
@@ -24,10 +24,10 @@ prefix_bytes version sketch =
     ++ flat_map (λ page. page_bytes page.now) sketch.pages.now
     ++ flat_map event_bytes sketch.events.now
 
--- the checkpoints in version 2, after one with the table `before`
-abbrev pub second_claims : List ℕ → List Claim → List ℕ
-second_claims before [] = []
-second_claims before (claim ∷ claims) = second_bytes before claim ++ second_claims (page_ids claim) claims
+-- the checkpoints in version 2 or 3, after one with the table `before`
+abbrev pub later_claims : ℕ → List ℕ → List Claim → List ℕ
+later_claims version before [] = []
+later_claims version before (claim ∷ claims) = later_bytes version before claim ++ later_claims version (page_ids claim) claims
 
 -- the output of all checkpoints
 abbrev pub output_bytes : List Claim → List ℕ
@@ -37,7 +37,7 @@ output_bytes claims = flat_map (λ (claim : Claim). claim.sent.now) claims
 unfoldable pub first_file : Sketch → List ℕ
 first_file sketch = prefix_bytes 1 sketch ++ flat_map first_bytes sketch.claims.now ++ output_bytes sketch.claims.now
 
--- the file of version 2
-unfoldable pub second_file : Sketch → List ℕ
-second_file sketch =
-    prefix_bytes 2 sketch ++ second_claims (replicate 1024 0) sketch.claims.now ++ output_bytes sketch.claims.now
+-- the file of version 2 or 3
+unfoldable pub later_file : ℕ → Sketch → List ℕ
+later_file version sketch =
+    prefix_bytes version sketch ++ later_claims version (replicate 1024 0) sketch.claims.now ++ output_bytes sketch.claims.now

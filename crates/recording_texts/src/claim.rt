@@ -2,13 +2,14 @@
 
 ghost use Rattle.std.specs.Prelude.{◌≡◌, ◌++◌, ◌+◌, ◌<◌, ◌≤◌, IfOk, OnOk, slice_index_or, vec_len};
 ghost use Rattle.recording_texts.specs.Bytes.{padded};
-ghost use Rattle.recording_texts.specs.Claims.{change_at, changes_below, device_bytes, fields_bytes, first_bytes};
-ghost use Rattle.recording_texts.specs.Claims.{key_bytes, page_ids, processor_bytes, second_bytes};
+ghost use Rattle.recording_texts.specs.Claims.{change_at, changes_below, device_bytes, disk_bytes, fields_bytes, first_bytes};
+ghost use Rattle.recording_texts.specs.Claims.{key_bytes, later_bytes, page_ids, processor_bytes};
 
 use crate::bytes::{number_of, push_long, push_word, push_words, set_numbers};
 use std::alloc::{AllocError, Global};
 
-/// The claim of a checkpoint. A file of version 1 has no fields for the timer's rate and phase, and leaves them out.
+/// The claim of a checkpoint. A file of version 1 has no fields for the timer's rate and phase, and one of version 1 or 2 none for
+/// the disk's answer: they leave them out.
 #[derive(Clone, Copy)]
 pub struct Claim<'a> {
     pub count: u64,
@@ -25,6 +26,8 @@ pub struct Claim<'a> {
     pub leds: u32,
     pub mouse: u32,
     pub serial: u32,
+    /// The disk's answer: 255 before the first.
+    pub disk: u32,
     /// The waiting keys, oldest first.
     pub keys: &'a [u8],
     /// The page ids that are not 0, by their slots.
@@ -33,7 +36,7 @@ pub struct Claim<'a> {
     pub sent: &'a [u8],
 }
 
-/// All zeros at count 0: no page, no key, no output.
+/// All zeros at count 0: no page, no key, no answer, no output.
 pub const ZEROS: Claim<'static> = Claim {
     count: 0,
     registers: &[],
@@ -48,6 +51,7 @@ pub const ZEROS: Claim<'static> = Claim {
     leds: 0,
     mouse: 0,
     serial: 0,
+    disk: 255,
     keys: &[],
     table: &[],
     sent: &[],
@@ -70,10 +74,15 @@ impl Claim<'_> {
         Ok(bytes)
     }
 
-    /// Returns the checkpoint in version 2, with the changes from the table before it.
-    #[tactic(auto, unfolding(crate::specs::Claims::second_bytes))]
-    pub(crate) fn second(&self, alloc: Global, before: &[u32; 1024]) -> Result<Vec<u8>, AllocError>
-        ensures { IfOk result (λ bytes. bytes.items ≡ second_bytes before.now self.now) }
+    /// Returns the checkpoint in version 2 or 3, with the changes from the table before it.
+    #[tactic(auto, unfolding(crate::specs::Claims::later_bytes))]
+    pub(crate) fn later(
+        &self,
+        alloc: Global,
+        version: u32,
+        before: &[u32; 1024],
+    ) -> Result<Vec<u8>, AllocError>
+        ensures { IfOk result (λ bytes. bytes.items ≡ later_bytes version before.now self.now) }
     {
         let mut changes = changes(alloc, before, &self.page_ids())?;
         let mut bytes = self.fields(alloc)?;
@@ -82,10 +91,11 @@ impl Claim<'_> {
             &[self.rate, self.phase, (changes.len() / 8) as u32],
         )?;
         bytes.append(&mut changes)?;
+        push_disk(&mut bytes, version, self.disk)?;
         Ok(bytes)
     }
 
-    /// Returns the 132 bytes that begin a checkpoint in both versions.
+    /// Returns the 132 bytes that begin a checkpoint in each version.
     #[tactic(auto, unfolding(crate::specs::Claims::fields_bytes))]
     fn fields(&self, alloc: Global) -> Result<Vec<u8>, AllocError>
         ensures { IfOk result (λ bytes. bytes.items ≡ fields_bytes self.now) }
@@ -131,6 +141,17 @@ impl Claim<'_> {
         let mut numbers = [0; 1024];
         set_numbers(&mut numbers, self.table);
         numbers
+    }
+}
+
+/// Appends the disk's answer in version 3.
+fn push_disk(bytes: &mut Vec<u8>, version: u32, disk: u32) -> Result<(), AllocError>
+    ensures { OnOk result (bytes.new.items ≡ bytes.old.items ++ disk_bytes version disk) }
+{
+    if version == 3 {
+        push_word(bytes, disk)
+    } else {
+        Ok(())
     }
 }
 

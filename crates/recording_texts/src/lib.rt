@@ -1,4 +1,4 @@
-//! Recording files for tests, of either version, encoded from what their checkpoints claim.
+//! Recording files for tests, of each version, encoded from what their checkpoints claim.
 //!
 //! Only tests use it. It depends on no other crate, least of all `oberon_format`, and encodes the bytes on its own, as
 //! `docs/formats.md` defines them: an independent witness of what the product reads and writes. It does not test whether a
@@ -11,5 +11,5 @@ mod named;
 mod sketch;
 
 pub use claim::{Claim, FIRST_PAGE, ZEROS};
-pub use named::{EMPTY, EQUAL_PAGES, JUMP, JUMPS, ONE_BYTE_SENT, STORED_RUN};
+pub use named::{ANSWERED_JUMPS, EMPTY, EQUAL_PAGES, JUMP, JUMPS, ONE_BYTE_SENT, STORED_RUN};
 pub use sketch::{Event, Sketch, header};

@@ -1,7 +1,7 @@
 //! Recordings that tests of several crates use. All of them are true.
 
 use crate::claim::{Claim, FIRST_PAGE, ZEROS};
-use crate::sketch::Sketch;
+use crate::sketch::{Event, Sketch};
 
 /// The word of a jump to itself.
 pub const JUMP: u32 = 0xE7FF_FFFF;
@@ -57,6 +57,24 @@ pub const JUMPS: Sketch<'static> = Sketch {
         },
         Claim {
             count: 100,
+            ..FIRST_PAGE
+        },
+    ],
+};
+
+/// A jump to itself, while the disk answers 1,000 at count 5, in a segment of ten steps. Only version 3 has a field for that.
+pub const ANSWERED_JUMPS: Sketch<'static> = Sketch {
+    pages: &[&[JUMP]],
+    events: &[Event {
+        count: 5,
+        kind: 6,
+        value: 1000,
+    }],
+    claims: &[
+        FIRST_PAGE,
+        Claim {
+            count: 10,
+            disk: 1000,
             ..FIRST_PAGE
         },
     ],

@@ -5,7 +5,7 @@ ghost use Rattle.std.specs.List.{flat_map};
 ghost use Rattle.recording_texts.specs.Claims.{first_bytes};
 ghost use Rattle.recording_texts.specs.Header.{header_bytes};
 ghost use Rattle.recording_texts.specs.Layout.{event_bytes, first_file, output_bytes, page_bytes};
-ghost use Rattle.recording_texts.specs.Layout.{prefix_bytes, second_claims, second_file};
+ghost use Rattle.recording_texts.specs.Layout.{later_claims, later_file, prefix_bytes};
 
 use crate::bytes::{number_of, push_long, push_word, push_words};
 use crate::claim::Claim;
@@ -56,12 +56,26 @@ impl<'a> Sketch<'a> {
     }
 
     /// Returns the file of version 2.
-    #[tactic(auto, unfolding(crate::specs::Layout::second_file))]
     pub fn second_file(&self, alloc: Global) -> Result<Vec<u8>, AllocError>
-        ensures { IfOk result (λ file. file.items ≡ second_file self.now) }
+        ensures { IfOk result (λ file. file.items ≡ later_file 2 self.now) }
     {
-        let mut file = self.prefix(alloc, 2)?;
-        push_second_claims(alloc, &mut file, self.claims)?;
+        self.later_file(alloc, 2)
+    }
+
+    /// Returns the file of version 3.
+    pub fn third_file(&self, alloc: Global) -> Result<Vec<u8>, AllocError>
+        ensures { IfOk result (λ file. file.items ≡ later_file 3 self.now) }
+    {
+        self.later_file(alloc, 3)
+    }
+
+    /// Returns the file of version 2 or 3.
+    #[tactic(auto, unfolding(crate::specs::Layout::later_file))]
+    fn later_file(&self, alloc: Global, version: u32) -> Result<Vec<u8>, AllocError>
+        ensures { IfOk result (λ file. file.items ≡ later_file version self.now) }
+    {
+        let mut file = self.prefix(alloc, version)?;
+        push_later_claims(alloc, &mut file, version, self.claims)?;
         push_output(&mut file, self.claims)?;
         Ok(file)
     }
@@ -151,14 +165,19 @@ fn push_first_claim(alloc: Global, file: &mut Vec<u8>, claim: &Claim) -> Result<
     file.append(&mut bytes)
 }
 
-/// Appends the checkpoints in version 2.
-#[tactic(auto, using(crate::proofs::Encoded::one_second_more, crate::proofs::Encoded::table_of_one_more))]
-fn push_second_claims(alloc: Global, file: &mut Vec<u8>, claims: &[Claim]) -> Result<(), AllocError>
-    ensures { OnOk result (file.new.items ≡ file.old.items ++ second_claims (replicate 1024 0) claims.now) }
+/// Appends the checkpoints in version 2 or 3.
+#[tactic(auto, using(crate::proofs::Encoded::one_later_more, crate::proofs::Encoded::table_of_one_more))]
+fn push_later_claims(
+    alloc: Global,
+    file: &mut Vec<u8>,
+    version: u32,
+    claims: &[Claim],
+) -> Result<(), AllocError>
+    ensures { OnOk result (file.new.items ≡ file.old.items ++ later_claims version (replicate 1024 0) claims.now) }
 {
     let mut before = [0; 1024];
     for k in 0..claims.len() {
-        let mut bytes = claims[k].second(alloc, &before)?;
+        let mut bytes = claims[k].later(alloc, version, &before)?;
         file.append(&mut bytes)?;
         before = claims[k].page_ids();
     }

@@ -1,6 +1,6 @@
 //! Bytes and words of a file that are replaced, and the faults of files.
 
-use oberon_format::{Fault, read, refusal};
+use oberon_format::{Fault, read, read_with_disk, refusal};
 use recording_texts::{STORED_RUN, Sketch};
 use std::alloc::{AllocError, Global};
 use std::process::Abort;
@@ -31,25 +31,27 @@ pub(crate) fn put_words(bytes: &mut Vec<u8>, words: &[(u16, u32)]) {
     }
 }
 
-/// Returns the file of a sketch in version 1 or 2.
+/// Returns the file of a sketch in a version.
 pub(crate) fn file_of(
     alloc: Global,
     version: u32,
     sketch: &Sketch<'_>,
 ) -> Result<Vec<u8>, AllocError> {
-    if version == 1 {
-        sketch.first_file(alloc)
-    } else {
-        sketch.second_file(alloc)
+    match version {
+        1 => sketch.first_file(alloc),
+        2 => sketch.second_file(alloc),
+        _ => sketch.third_file(alloc),
     }
 }
 
-/// Reports whether this is the first fault of a file.
-pub(crate) fn is_fault_of(alloc: Global, bytes: &[u8], fault: Fault) -> bool {
-    match read(alloc, bytes) {
-        Ok(_) => false,
-        Err(found) => found == fault,
-    }
+/// Reports whether this is the first fault of a file: in versions 1 and 2 without a disk, and in version 3 with one.
+pub(crate) fn is_fault_of(alloc: Global, version: u32, bytes: &[u8], fault: Fault) -> bool {
+    let read = if version == 3 {
+        read_with_disk(alloc, bytes)
+    } else {
+        read(alloc, bytes)
+    };
+    read.err() == Some(fault)
 }
 
 /// Reports whether this is the first fault of the file of a sketch with these words at their offsets.
@@ -63,7 +65,7 @@ pub(crate) fn is_refused(
     match file_of(alloc, version, sketch) {
         Ok(mut bytes) => {
             put_words(&mut bytes, words);
-            is_fault_of(alloc, &bytes, fault)
+            is_fault_of(alloc, version, &bytes, fault)
         }
         Err(_) => false,
     }
@@ -87,7 +89,7 @@ pub(crate) fn row_of_another_fault(
 /// Reports whether this is the first fault of the file of the stored run with a byte after it.
 pub(crate) fn is_refused_with_a_byte_more(alloc: Global, version: u32, fault: Fault) -> bool {
     match file_of(alloc, version, &STORED_RUN) {
-        Ok(mut bytes) => bytes.push(0).is_ok() && is_fault_of(alloc, &bytes, fault),
+        Ok(mut bytes) => bytes.push(0).is_ok() && is_fault_of(alloc, version, &bytes, fault),
         Err(_) => false,
     }
 }

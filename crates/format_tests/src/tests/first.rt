@@ -411,7 +411,7 @@ fn refuses_a_file_with_a_byte_after_it(rt: HostRuntime) {
 /// Reports whether the file of the stored run is refused as short when cut at this length.
 fn is_short_at(alloc: Global, len: usize) -> bool {
     match cut_file(alloc, 1, len) {
-        Ok(bytes) => is_fault_of(alloc, &bytes, Fault::Short(len as u64)),
+        Ok(bytes) => is_fault_of(alloc, 1, &bytes, Fault::Short(len as u64)),
         Err(_) => false,
     }
 }

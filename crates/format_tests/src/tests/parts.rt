@@ -1,7 +1,7 @@
 //! Recordings made of parts: each rule that parts can break, broken once.
 
 use crate::tests::files::check_rows;
-use oberon_format::{Checkpoint, Fault, Recording};
+use oberon_format::{Checkpoint, Fault, Recording, write};
 use risc_devices::{Devices, Input};
 use risc_model::{Cpu, Event, Flags, Inputs};
 use risc_pages::{Page, Pool, Table};
@@ -283,8 +283,8 @@ fn refuses_a_checkpoint_too_many(rt: HostRuntime) {
     assert!(rt; is_a_checkpoint_too_many(rt.alloc()));
 }
 
-/// Returns the fault of a checkpoint after two inputs, an answer of a disk the second.
-fn fault_of_an_answer(alloc: Global) -> Option<Fault> {
+/// Returns two inputs, an answer of a disk the second.
+fn two_inputs(alloc: Global) -> Option<Inputs> {
     let first = Input::new(1, 0).ok()?;
     let second = Input::new_with_disk(6, 0xFFFF_FFFF).ok()?;
     let mut events = events_of(alloc, first, 1).ok()?;
@@ -293,20 +293,33 @@ fn fault_of_an_answer(alloc: Global) -> Option<Fault> {
         input: second,
     };
     events.push(answer).ok()?;
-    let inputs = Inputs::new(events).ok()?;
+    Inputs::new(events).ok()
+}
+
+/// Returns the fault of a checkpoint after these inputs.
+fn fault_of_an_answer(alloc: Global) -> Option<Fault> {
+    let inputs = two_inputs(alloc)?;
     let checkpoints = checkpoints_of(alloc, &[ZERO])?;
     Recording::from_parts(Pool::new(alloc), inputs, checkpoints).err()
 }
 
-/// Returns the fault of two checkpoints, the last with this answer of a disk.
-fn fault_with_disk(alloc: Global, disk: u32) -> Option<Fault> {
+/// Returns two checkpoints, the last with this answer of a disk.
+fn with_answer(alloc: Global, disk: u32) -> Option<Vec<Checkpoint>> {
     let devices = Devices::with_timer(0, 0, 0).ok()?.with_disk(disk);
     let mut checkpoints = checkpoints_of(alloc, &[ZERO, TEN])?;
     match checkpoints.last_mut() {
         Some(last) => last.devices = devices,
-        None => return Some(Fault::Memory),
+        None => return None,
     }
-    fault_of_parts(alloc, Pool::new(alloc), checkpoints)
+    Some(checkpoints)
+}
+
+/// Returns their fault, or that of want of memory.
+fn fault_with_disk(alloc: Global, disk: u32) -> Option<Fault> {
+    match with_answer(alloc, disk) {
+        Some(checkpoints) => fault_of_parts(alloc, Pool::new(alloc), checkpoints),
+        None => Some(Fault::Memory),
+    }
 }
 
 #[test]
@@ -321,4 +334,47 @@ fn refuses_answers_of_a_disk(rt: HostRuntime) {
     );
     let checkpoint = Some(Fault::Checkpoint(168));
     assert!(rt; fault_with_disk(alloc, 0) == checkpoint, "in a checkpoint");
+}
+
+/// Returns the file of a recording with answers of a disk, as an input and in its last checkpoint.
+fn file_with_answers(alloc: Global) -> Option<Vec<u8>> {
+    let inputs = two_inputs(alloc)?;
+    let checkpoints = with_answer(alloc, 0x0102_0304)?;
+    let recording = Recording::from_parts_with_disk(Pool::new(alloc), inputs, checkpoints).ok()?;
+    write(alloc, &recording).ok()
+}
+
+/// Reports whether it is a file of version 3 whose last four bytes are that answer: the header, two events, and two checkpoints.
+fn is_third_file(bytes: &[u8]) -> bool {
+    bytes.len() == 24 + 32 + 148 + 148
+        && bytes[4] == 3
+        && bytes[348..352] == [0x04, 0x03, 0x02, 0x01]
+}
+
+/// Reports whether that file is such a one.
+fn are_answers_taken(alloc: Global) -> bool {
+    match file_with_answers(alloc) {
+        Some(bytes) => is_third_file(&bytes),
+        None => false,
+    }
+}
+
+#[test]
+fn takes_answers_of_a_disk_with_one(rt: HostRuntime) {
+    assert!(rt; are_answers_taken(rt.alloc()));
+}
+
+/// Returns the fault of this many inputs with a disk, no pages and no checkpoints: that of no checkpoint, if they are not too
+/// many.
+fn fault_of_inputs_with_disk(alloc: Global, events: u64) -> Option<Fault> {
+    let input = Input::new(1, 0).ok()?;
+    let events = events_of(alloc, input, events).ok()?;
+    let inputs = Inputs::new(events).ok()?;
+    Recording::from_parts_with_disk(Pool::new(alloc), inputs, Vec::new(alloc)).err()
+}
+
+#[test]
+fn takes_more_inputs_with_a_disk(rt: HostRuntime) {
+    let fault = fault_of_inputs_with_disk(rt.alloc(), 1_000_001);
+    assert!(rt; fault == Some(Fault::Limit(16)));
 }

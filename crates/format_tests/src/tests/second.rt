@@ -246,7 +246,7 @@ fn length_of_another_fault(
         } else {
             fault
         };
-        if !is_fault_of(alloc, &bytes, wanted) {
+        if !is_fault_of(alloc, 2, &bytes, wanted) {
             return Some(len);
         }
     }

@@ -11,7 +11,7 @@ use Rattle.oberon_format.specs.declared.layout.TheConstants.{KIND_AT, VALUE_AT, 
 use Rattle.oberon_format.specs.declared.layout.TheConstants.{STOP_AT, TIMER_AT, SWITCHES_AT, LEDS_AT, MOUSE_AT, SERIAL_AT}
 use Rattle.oberon_format.specs.declared.layout.TheConstants.{WAITING_AT, KEYS_AT, SENT_AT, RATE_AT, PHASE_AT}
 use Rattle.oberon_format.specs.CheckpointParts.{CheckpointParts}
-use Rattle.oberon_format.specs.Layout.{word_at, long_at, page_offset, event_offset, word_since_2, start, output_offset}
+use Rattle.oberon_format.specs.Layout.{word_at, long_at, page_offset, event_offset, word_since_2, disk_at, start, output_offset}
 use Rattle.oberon_format.specs.Fields.{sent_below}
 use Rattle.oberon_format.specs.ByteFields.{fields_of, page_id_of}
 
@@ -46,9 +46,9 @@ cpu_at bytes offset = record {
   stop = word_at bytes (offset + STOP_AT);
 }
 
--- the devices of the checkpoint at an offset
-abbrev pub devices_at : List ℕ → ℕ → DeviceState
-devices_at bytes offset =
+-- the devices of the checkpoint at an offset, but for the disk's answer
+abbrev pub fixed_devices_at : List ℕ → ℕ → DeviceState
+fixed_devices_at bytes offset =
     state_of_parts
     (word_at bytes (offset + TIMER_AT))
     (word_since_2 bytes (offset + RATE_AT))
@@ -58,6 +58,10 @@ devices_at bytes offset =
     (word_at bytes (offset + MOUSE_AT))
     (word_at bytes (offset + SERIAL_AT))
     (slice_range bytes (offset + KEYS_AT) (offset + KEYS_AT + word_at bytes (offset + WAITING_AT)))
+
+-- the devices of the checkpoint at an offset
+abbrev pub devices_at : List ℕ → ℕ → DeviceState
+devices_at bytes offset = record (fixed_devices_at bytes offset) { disk = disk_at bytes offset }
 
 -- the table of checkpoint k
 unfoldable pub table_at : List ℕ → ℕ → List ℕ

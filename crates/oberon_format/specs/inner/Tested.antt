@@ -4,34 +4,34 @@ use Rattle.std.specs.Prelude.{MatchResult}
 use Rattle.oberon_format.specs.declared.fault.Fault.{Fault}
 use Rattle.oberon_format.specs.declared.fields.CheckpointFields.{CheckpointFields}
 use Rattle.risc_pages.specs.declared.sizes.TheConstants.{PAGE_SLOTS}
-use Rattle.oberon_format.specs.declared.layout.TheConstants.{MAGIC, HEADER_LEN, MAGIC_AT, LAST_AT, VERSION}
+use Rattle.oberon_format.specs.declared.layout.TheConstants.{MAGIC, HEADER_LEN, MAGIC_AT, LAST_AT}
 use Rattle.oberon_format.specs.declared.ranges.TheConstants.{MAX_CHECKPOINTS}
-use Rattle.recording_limits.specs.declared.limits.TheConstants.{MAX_EVENTS, MAX_OUTPUT, MAX_PAGES}
+use Rattle.recording_limits.specs.declared.limits.TheConstants.{MAX_EVENTS_WITH_DISK, MAX_OUTPUT, MAX_PAGES}
 use Rattle.oberon_format.specs.declared.rules.End.{End}
 use Rattle.oberon_format.specs.Changes.{changes, no_change, page_id_after}
 use Rattle.oberon_format.specs.Fields.{sent_below}
 use Rattle.oberon_format.specs.FirstFault.{Rule, first_broken, each}
 use Rattle.oberon_format.specs.Layout.{word_at, version, pages, events, checkpoints, start, output_offset}
-use Rattle.oberon_format.specs.Ranges.{is_version}
+use Rattle.oberon_format.specs.Ranges.{is_version_with_disk}
 use Rattle.oberon_format.specs.PartFields.{fields_in}
 use Rattle.oberon_format.specs.Recording.{RecordingParts}
 use Rattle.oberon_format.specs.Rules.{change_rules, event_rules, checkpoint_rules, named_len, file_len}
-use Rattle.oberon_format.specs.ByteFields.{fields_of, first_fault_of, change_of, checkpoint_of, page_id_before}
+use Rattle.oberon_format.specs.ByteFields.{fields_of, first_fault_with_disk, change_of, checkpoint_of, page_id_before}
 
 -- the header is there, its version is known, its numbers of pages, events and checkpoints are within their limits, and the parts
 -- that it counts are there
 pub record IsSized (bytes : List ℕ) : Type 0 where
   pub header : HEADER_LEN ≤ length bytes
-  pub known : is_version (version bytes) ≡ true
+  pub known : is_version_with_disk (version bytes) ≡ true
   pub pages : pages bytes ≤ MAX_PAGES
-  pub events : events bytes ≤ MAX_EVENTS
+  pub events : events bytes ≤ MAX_EVENTS_WITH_DISK
   pub some : 1 ≤ checkpoints bytes
   pub few : checkpoints bytes ≤ MAX_CHECKPOINTS
   pub long : named_len (fields_of bytes) ≤ length bytes
 
 -- the file breaks no rule
 pub record Meets (bytes : List ℕ) : Type 0 where
-  pub faultless : first_fault_of bytes ≡ None
+  pub faultless : first_fault_with_disk bytes ≡ None
   pub magic_is : word_at bytes MAGIC_AT ≡ MAGIC
   pub zero_is : word_at bytes LAST_AT ≡ 0
   pub sized : IsSized bytes
@@ -55,7 +55,7 @@ IsWholeTested bytes k offset sent outcome = MatchResult outcome
     × (first_broken (checkpoint_rules (fields_of bytes) k) ≡ None))
     (λ f. first_broken (checkpoint_rules (fields_of bytes) k) ≡ Some f)
 
--- the result for checkpoint k of version 2, at an offset, which changes a table into its own
+-- the result for checkpoint k of a later version, at an offset, which changes a table into its own
 abbrev pub IsChangedTested : List ℕ → ℕ → ℕ → ℕ → List ℕ → Result CheckpointFields Fault → Type 0
 IsChangedTested bytes k offset sent table outcome = MatchResult outcome
     (λ fields. (fields ≡ checkpoint_of bytes offset)
@@ -79,8 +79,8 @@ AreTested bytes outcome = MatchResult outcome
 -- the result for a file: the offset of its output if it breaks no rule, and else its first fault
 abbrev pub IsTested : List ℕ → Result ℕ Fault → Type 0
 IsTested bytes outcome = MatchResult outcome
-    (λ output. (first_fault_of bytes ≡ None) × (output ≡ output_offset bytes))
-    (λ f. first_fault_of bytes ≡ Some f)
+    (λ output. (first_fault_with_disk bytes ≡ None) × (output ≡ output_offset bytes))
+    (λ f. first_fault_with_disk bytes ≡ Some f)
 
 -- the rules of the changes from one table to another, encoded in a checkpoint at an offset
 abbrev pub encoded_change_rules : ℕ → ℕ → List ℕ → List ℕ → List (Rule Fault)
@@ -89,5 +89,5 @@ encoded_change_rules pages offset before table =
     (change_rules pages offset (slice_index before) (λ i. slice_index_or (changes before table) i no_change))
 
 -- the rules of the first n checkpoints of parts, as encoded
-abbrev pub encoded_checkpoint_rules : ℕ → RecordingParts → List (Rule Fault)
-encoded_checkpoint_rules count r = each count (checkpoint_rules (fields_in VERSION r))
+abbrev pub encoded_checkpoint_rules : ℕ → ℕ → RecordingParts → List (Rule Fault)
+encoded_checkpoint_rules version count r = each count (checkpoint_rules (fields_in version r))

@@ -1,7 +1,7 @@
 use Rattle.oberon_format.proofs.Common.{[], add-one, ap, arith, checkpoint_parts, CheckpointParts, checkpoints, checkpoints_at, decoded, fields_of, length-append, List, map-append, map-range_with_len_more, prior_page_id, refl, sym, ℕ, ◌++◌, ◌<◌, ◌∙◌, ◌∷◌, ◌≡◌}
 use Rattle.oberon_format.proofs.Decode.{table_made}
 use Rattle.oberon_format.proofs.RuleLemmas.{checkpoint_holds, output_below_none, output_below_more}
-use Rattle.oberon_format.proofs.Room.{offset_next}
+use Rattle.oberon_format.proofs.Room.{checkpoint_there, offset_next}
 use Rattle.oberon_format.proofs.PartLemmas.{prior_more}
 use Rattle.oberon_format.proofs.ReadRules.{prior_none}
 use Rattle.oberon_format.proofs.reading.checkpoints_of.Goals as goal
@@ -22,6 +22,9 @@ checkpoint_of-requires-clause-ranges c = rw c.loop-k.invariant.offset_is (checkp
 
 pub checkpoint_of-requires-clause-keys : goal.checkpoint_of-requires-clause-keys
 checkpoint_of-requires-clause-keys c = rw c.loop-k.invariant.offset_is (checkpoint_holds c.args.bytes.now c.loop-k.k c.requires.meets (omega arith)).keys
+
+pub checkpoint_of-requires-clause-whole : goal.checkpoint_of-requires-clause-whole
+checkpoint_of-requires-clause-whole c = rw c.loop-k.invariant.offset_is (checkpoint_there c.args.bytes.now c.loop-k.k c.requires.meets (omega arith))
 
 pub checkpoint_len-requires-clause-changes : goal.checkpoint_len-requires-clause-changes
 checkpoint_len-requires-clause-changes c =

@@ -1,4 +1,4 @@
-use Rattle.oberon_format.proofs.Common.{add-one, ap, arith, change_count, checkpoint_of, checkpoint_rules, CheckpointFields, checkpoints, eqb-true, fields_of, first_broken, FIRST_VERSION, HasPageIds, length, List, long_at, MAX_OUTPUT, None, page_id_before, SENT_AT, Some, start, subst, suc, sym, true, VERSION, version, word_at, ℕ, ◌+◌, ◌<◌, ◌==◌, ◌∙◌, ◌≡◌, ◌≤◌}
+use Rattle.oberon_format.proofs.Common.{add-one, ap, arith, change_count, checkpoint_of, checkpoint_rules, CheckpointFields, checkpoints, eqb-true, fields_of, first_broken, FIRST_VERSION, HasPageIds, length, List, long_at, MAX_OUTPUT, None, page_id_before, SENT_AT, Some, start, subst, suc, sym, true, version, word_at, ℕ, ◌+◌, ◌<◌, ◌==◌, ◌∙◌, ◌≡◌, ◌≤◌, false}
 use Rattle.oberon_format.proofs.Room.{start_next, size_first, whole_room, offset_next}
 use Rattle.oberon_format.proofs.RuleLemmas.{each_more, each_broken, output_below, output_below_more, count_before_more}
 use Rattle.oberon_format.proofs.rules.checkpoints_end.Goals.{then-is_first, else-is_first}
@@ -19,7 +19,7 @@ record AreTested (bytes : List ℕ) (k offset sent : ℕ) (fields : CheckpointFi
   read : fields ≡ checkpoint_of bytes offset
   small : sent + fields.output ≤ MAX_OUTPUT
   there : start bytes (suc k) ≤ length bytes
-  numbers : version bytes ≡ VERSION → HasPageIds table (page_id_before bytes (suc k))
+  numbers : (version bytes == FIRST_VERSION) ≡ false → HasPageIds table (page_id_before bytes (suc k))
   met : first_broken (checkpoint_rules (fields_of bytes) k) ≡ None
 
 pub loop-k-preserved : goal.loop-k-preserved
@@ -32,7 +32,7 @@ loop-k-preserved c =
           let test : (version bytes == FIRST_VERSION) ≡ true = sym c.is_first_version-is_first.ensures ∙ w.if-is_first.true in
           let is = eqb-true _ _ test in let room = whole_room bytes k c.requires lt is in let next = start_next bytes k in
           let size = size_first (version bytes) (change_count bytes (start bytes k)) is in
-          record { read = facts.0; small = facts.1; there = omega arith; numbers = λ later. absurd (omega arith); met = facts.2 }
+          record { read = facts.0; small = facts.1; there = omega arith; numbers = λ later. absurd cc; met = facts.2 }
       | else-is_first w ↦
           let facts = rw (← w.tested-is, c.in-Ok.is) at w.changed_checkpoint-tested.ensures in
           record { read = facts.0; small = facts.1; there = facts.2; numbers = λ is. rw w.table-is facts.4; met = facts.5 }

@@ -1,10 +1,15 @@
-use Rattle.oberon_format.proofs.Common.{arith, List, subst, sym, IsEncoding, VERSION, ℕ, ◌∙◌}
-use Rattle.oberon_format.proofs.Encoded.{encoded}
-use Rattle.oberon_format.proofs.WriteLemmas.{parts_joined}
+use Rattle.std.proofs.lemmas.Bool.{true≢false}
+use Rattle.oberon_format.proofs.Common.{sym, ◌∙◌}
 use Rattle.oberon_format.proofs.writing.write.Goals as goal
 
-pub returns : goal.returns
-returns c =
-    let bytes = parts_joined c.args.r.now c.events.result.now _ _ _ _ _ _ (c.events.ensures.events ∙ c.inputs.ensures.inputs) c.in_ok-out.ensures.items c.in_ok-push_header.ensures
-    c.in_ok-push_events.ensures c.in_ok-push_checkpoints.ensures c.in_ok-push_output.ensures (search arith) in
-    subst (λ (bytes : List ℕ). IsEncoding VERSION bytes c.args.r.now) (sym bytes) (encoded c.args.r.now c.inputs.ensures.lawful)
+pub returns-then-is_plain-clause-plain : goal.returns-then-is_plain-clause-plain
+returns-then-is_plain-clause-plain c = λ plain. c.written_in.ensures
+
+pub returns-then-is_plain-clause-others : goal.returns-then-is_plain-clause-others
+returns-then-is_plain-clause-others c = λ other. absurd (other (c.is_plain.ensures.0 c.if-is_plain.true))
+
+pub returns-else-is_plain-clause-plain : goal.returns-else-is_plain-clause-plain
+returns-else-is_plain-clause-plain c = λ plain. absurd (true≢false (sym (c.is_plain.ensures.1 plain) ∙ c.if-is_plain.false))
+
+pub returns-else-is_plain-clause-others : goal.returns-else-is_plain-clause-others
+returns-else-is_plain-clause-others c = λ other. c.written_in-else-is_plain.ensures

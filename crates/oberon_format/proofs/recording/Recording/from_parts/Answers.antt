@@ -1,14 +1,15 @@
-use Rattle.oberon_format.proofs.Common.{Fault, fault_of_parts, IfSome, IsNamedFault, Option, parts_of, subst, sym}
+use Rattle.oberon_format.proofs.Common.{Fault, fault_of_parts, IfSome, IsNamedFault, Option, parts_of, refl, subst, sym, VERSION}
 use Rattle.oberon_format.proofs.LawfulLemmas.{lawful_parts}
 use Rattle.oberon_format.proofs.Named.{parts_named}
+use Rattle.oberon_format.proofs.PlainLemmas.{general, plain}
 use Rattle.oberon_format.proofs.recording.Recording.from_parts.Goals as goal
 
 pub returns-in-Some-clause-lawful : goal.returns-in-Some-clause-lawful
 returns-in-Some-clause-lawful c =
     let found = rw c.deref.ensures.value at c.in-Some.ensures.fault in
-    (λ h. absurd cc, λ lawful. let none = lawful_parts _ lawful in absurd cc)
+    (λ h. absurd cc, λ lawful. let none = lawful_parts VERSION _ refl (general _ lawful) (λ other. plain _ lawful) in absurd cc)
 
 pub returns-in-Some-clause-named : goal.returns-in-Some-clause-named
 returns-in-Some-clause-named c =
     let found = rw c.deref.ensures.value at c.in-Some.ensures.fault in let r = parts_of c.args.pool c.args.inputs c.args.checkpoints.items in
-    subst (λ (o : Option Fault). IfSome o IsNamedFault) {x = fault_of_parts r} (sym {b = fault_of_parts r} found) (parts_named r)
+    subst (λ (o : Option Fault). IfSome o IsNamedFault) {x = fault_of_parts r} (sym {b = fault_of_parts r} found) (parts_named VERSION r)
