@@ -1,7 +1,7 @@
 -- Checkpoint 0 of a session is recorded.
 use Rattle.std.proofs.Common.{◌≡◌, ◌<◌, ◌^◌, ℕ, true, zero, suc, ◌≤◌, List, [], ◌∷◌, ap, arith, get_or, length, length-set, refl, subst, sym, ◌∙◌}
 use Rattle.std.proofs.lemmas.List.{length-map, length-replicate, nil_from_length}
-use Rattle.std.proofs.lemmas.List.Elements.{All-cons, All-map, All-nil, All-replicate, All-set}
+use Rattle.std.proofs.lemmas.List.Elements.{All-map, All-replicate, All-set}
 use Rattle.std.specs.List.{All}
 use Rattle.std.proofs.lemmas.Bool.{and_parts, ltb-true}
 use Rattle.std.specs.Prelude.{nat_lt, slice_index}
@@ -11,7 +11,7 @@ use Rattle.risc_devices.proofs.DeviceLemmas.{timer_fit}
 use Rattle.risc_pages.specs.Tables.{table_words, zero_numbers}
 use Rattle.risc_pages.specs.Pages.{ArePages, IsPage}
 use Rattle.oberon_format.specs.CheckpointParts.{CheckpointParts, no_checkpoint}
-use Rattle.oberon_format.specs.Recording.{IsFit, IsLawful, IsUnanswered, output_of}
+use Rattle.oberon_format.specs.Recording.{IsFit, IsLawfulWithDisk, output_of}
 use Rattle.oberon_session.proofs.Next.{Recorded, so-recorded}
 use Rattle.oberon_session.proofs.Steps.{between-none, count_of-zero, first_fault-zero, stored_of-zero, output_up_to-zero, state_at-zero}
 use Rattle.oberon_session.specs.Digits.{PlacedWords}
@@ -19,7 +19,7 @@ use Rattle.oberon_session.specs.Stored.{Stored}
 use Rattle.oberon_session.specs.Laws.{IsTableOf}
 use Rattle.oberon_session.specs.Ranges.{timer_fits}
 use Rattle.oberon_session.specs.Recorded.{checkpoint_of, count_of, first_devices, first_stored, first_state, stored_of, numbered, output_between, output_up_to, state_at, state_of}
-use Rattle.oberon_session.specs.SessionParts.{SessionParts, slots_in, IsLawful as IsLawfulSession}
+use Rattle.oberon_session.specs.SessionParts.{SessionParts, slots_in, IsLawfulWithDisk as IsLawfulSession}
 use Rattle.oberon_session.specs.inner.Progress.{IsContentOf, IsRecorded, checkpoints_to}
 
 -- ---- the first table
@@ -60,14 +60,27 @@ module _ (rate phase : ℕ) (fits : timer_fits rate phase ≡ true) where
   pub timer-phase : IsPhase rate phase
   timer-phase = (and_parts _ (is_phase rate phase) fits).1
 
--- a rate and a phase that fit are those of devices
-fitting-devices : (rate phase : ℕ) → timer_fits rate phase ≡ true → IsDeviceState (first_devices rate phase)
-fitting-devices rate phase fits = timer_fit 0 rate phase (omega arith) (timer-rate rate phase fits) (timer-phase rate phase fits)
+-- a rate, a phase and an answer that fit are those of devices
+fitting-devices : (rate phase disk : ℕ) → timer_fits rate phase ≡ true → disk < 2 ^ 32 → IsDeviceState (first_devices rate phase disk)
+fitting-devices rate phase disk fits small =
+    let fit = timer_fit 0 rate phase (omega arith) (timer-rate rate phase fits) (timer-phase rate phase fits) in
+    record {
+      timer = fit.timer;
+      rate = fit.rate;
+      phase = fit.phase;
+      switches = fit.switches;
+      leds = fit.leds;
+      mouse = fit.mouse;
+      serial = fit.serial;
+      keys = fit.keys;
+      codes = fit.codes;
+      disk = small;
+    }
 
 module _ (s : SessionParts) where
   -- the parts of the checkpoint
   abbrev pub first-checkpoint : CheckpointParts
-  first-checkpoint = record { count = 0; cpu = s.cpu; devices = first_devices s.rate s.phase; sent = []; table = (first_stored s.pages).table }
+  first-checkpoint = record { count = 0; cpu = s.cpu; devices = first_devices s.rate s.phase s.disk; sent = []; table = (first_stored s.pages).table }
 
   pub state-first : state_of s 0 ≡ first_state s
   state-first = ap (λ (n : ℕ). state_at s n) (count_of-zero s) ∙ state_at-zero s
@@ -76,7 +89,7 @@ module _ (s : SessionParts) where
   unfolding first_state
   first-cpu = refl
 
-  first-devices : (first_state s).devices ≡ first_devices s.rate s.phase
+  first-devices : (first_state s).devices ≡ first_devices s.rate s.phase s.disk
   unfolding first_state
   first-devices = refl
 
@@ -98,7 +111,7 @@ module _ (s : SessionParts) where
   checkpoints-first = ap (λ (c : CheckpointParts). c ∷ []) checkpoint-first
 
   module _ (lawful : IsLawfulSession s) where
-    lawful-first : IsLawful (record { pool = (first_stored s.pages).pool; inputs = s.inputs; checkpoints = first-checkpoint ∷ [] })
+    lawful-first : IsLawfulWithDisk (record { pool = (first_stored s.pages).pool; inputs = s.inputs; checkpoints = first-checkpoint ∷ [] })
     lawful-first =
         let table = first-table s.pages in
         let few = first-few s.pages in
@@ -118,15 +131,11 @@ module _ (s : SessionParts) where
               subst (λ (j : ℕ). IsFit (first_stored s.pages).pool (get_or (first-checkpoint ∷ []) j no_checkpoint)) this (record {
                 bounded = omega arith;
                 cpu = lawful.cpu;
-                devices = fitting-devices s.rate s.phase lawful.timer;
+                devices = fitting-devices s.rate s.phase s.disk lawful.timer lawful.disk;
                 table = record { count = table.count; fit = λ j d within. omega (arith, table.named j d within, few, lawful.few) };
                 named = table.named;
                 bytes = λ j d within. absurd (omega arith);
               });
-          unanswered = record {
-            inputs = lawful.unanswered;
-            checkpoints = All-cons IsUnanswered first-checkpoint [] refl (All-nil IsUnanswered);
-          };
         }
 
     pub recorded-first : Recorded s 0
@@ -138,8 +147,8 @@ module _ (s : SessionParts) where
           output = ap output_of checkpoints-first ∙ sym none;
           sent_is = refl;
           lawful =
-              subst (λ (l : Stored). IsLawful (record { pool = l.pool; inputs = s.inputs; checkpoints = checkpoints_to s 0 })) (sym (stored_of-zero s))
-              (subst (λ (cs : List CheckpointParts). IsLawful (record { pool = (first_stored s.pages).pool; inputs = s.inputs; checkpoints = cs })) (sym checkpoints-first) lawful-first);
+              subst (λ (l : Stored). IsLawfulWithDisk (record { pool = l.pool; inputs = s.inputs; checkpoints = checkpoints_to s 0 })) (sym (stored_of-zero s))
+              (subst (λ (cs : List CheckpointParts). IsLawfulWithDisk (record { pool = (first_stored s.pages).pool; inputs = s.inputs; checkpoints = cs })) (sym checkpoints-first) lawful-first);
           content = λ j low.
               let this : 0 ≡ j = omega arith in
               subst (λ (n : ℕ). IsContentOf s (stored_of s 0).pool n) this
@@ -152,7 +161,7 @@ module _ (s : SessionParts) where
         so-recorded s stored cs 0 0 (stored-so ∙ sym (stored_of-zero s)) (cs-so ∙ sym checkpoints-first)
         (sym (ap (λ (n : ℕ). length (output_up_to s n)) (count_of-zero s) ∙ output_up_to-zero s)) recorded-first
 
-  pub one-checkpoint : (cpu : CpuState) (devices : DeviceState) (sent table : List ℕ) → cpu ≡ s.cpu → devices ≡ first_devices s.rate s.phase → sent ≡ []
+  pub one-checkpoint : (cpu : CpuState) (devices : DeviceState) (sent table : List ℕ) → cpu ≡ s.cpu → devices ≡ first_devices s.rate s.phase s.disk → sent ≡ []
       → table ≡ (first_stored s.pages).table → record { count = 0; cpu = cpu; devices = devices; sent = sent; table = table } ∷ [] ≡ first-checkpoint ∷ []
   one-checkpoint cpu devices sent table cpus states sents tables =
       λ i. record { count = 0; cpu = cpus i; devices = states i; sent = sents i; table = tables i } ∷ []

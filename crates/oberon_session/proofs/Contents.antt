@@ -16,7 +16,7 @@ use Rattle.risc_pages.proofs.PoolLemmas.{page_at-table_words, page_of-shared, pa
 use Rattle.risc_pages.specs.Tables.{IsNamed, table_words}
 use Rattle.risc_pages.specs.Delta.{changed_below}
 use Rattle.risc_pages.specs.Pages.{ArePages, page_at, page_of, zero_page}
-use Rattle.oberon_session.proofs.StoredPages.{with-page}
+use Rattle.oberon_session.proofs.PagesStored.{with-page}
 use Rattle.oberon_session.specs.Stored.{Stored, changed_pages, is_blank, store, store_page, store_pages}
 use Rattle.oberon_session.specs.Laws.{IsTableOf}
 

@@ -1,23 +1,30 @@
 -- The tests of ranges and order hold exactly if the propositions do.
-use Rattle.std.proofs.Common.{◌≡◌, ◌<◌, ◌≤◌, ◌+◌, ◌^◌, ◌&&◌, ℕ, zero, suc, Bool, List, [], ◌∷◌, arith, length, refl, subst}
+use Rattle.std.proofs.Common.{◌≡◌, ◌<◌, ◌≤◌, ◌+◌, ◌^◌, ◌&&◌, ◌==◌, ℕ, zero, suc, Bool, List, [], ◌∷◌, arith, length, refl, subst}
 use Rattle.std.proofs.lemmas.Bool.{le-leb, leb-true}
-use Rattle.std.proofs.lemmas.Bool.Decides.{Decides-and, Decides-by_and, Decides-like, Decides-ltb}
+use Rattle.std.proofs.lemmas.Bool.Decides.{Decides-and, Decides-by_and, Decides-eqb, Decides-like, Decides-ltb, Decides-not}
 use Rattle.std.specs.Bool.{Decides}
 use Rattle.std.specs.List.{All, list_all}
-use Rattle.std.specs.Prelude.{nat_le, nat_lt, slice_index}
+use Rattle.std.specs.Prelude.{nat_le, nat_lt, not, slice_index}
 use Rattle.oberon_session.specs.Draft.{Draft, InputNumbers, PageText, Start}
-use Rattle.oberon_session.specs.Ranges.{count_fits, in_order, in_range, input_counts, input_fits, of_neighbours, page_fits, slots_of, start_fits, timer_fits}
+use Rattle.oberon_session.specs.Ranges.{count_fits, in_order, in_range, input_counts, input_fits, max_inputs, of_neighbours, page_fits, slots_of, start_fits, timer_fits}
 use Rattle.oberon_session.specs.SessionParts.{CountFits}
 use Rattle.oberon_session.specs.inner.Tested.{InOrder, InRange, InputFits, PageFits, StartFits}
 use Rattle.risc_core.specs.declared.branch.TheConstants.{COUNTER_END}
+use Rattle.risc_devices.specs.declared.kinds.TheConstants.{DISK}
 use Rattle.risc_model.specs.declared.inputs.TheConstants.{MAX_COUNT}
-use Rattle.recording_limits.specs.declared.limits.TheConstants.{LAST_CHECKPOINT, MAX_EVENTS}
+use Rattle.recording_limits.specs.declared.limits.TheConstants.{LAST_CHECKPOINT}
 
 decides-le : (a b : ℕ) → Decides (nat_le a b) (a ≤ b)
 decides-le a b = (leb-true a b, le-leb a b)
 
 decides-all : {X : Type 0} (test : X → Bool) (P : X → Type 0) → ((x : X) → Decides (test x) (P x)) → (xs : List X) → Decides (list_all test xs) (All P xs)
 decides-all test P each = Decides-by_and test P (list_all test) each refl (λ _ _. refl)
+
+-- no input is an answer of a disk
+pub decides-unanswered : (inputs : List InputNumbers) → Decides (list_all (λ input. not (input.kind == DISK)) inputs) (All (λ input. ¬ (input.kind ≡ DISK)) inputs)
+decides-unanswered =
+    decides-all (λ (input : InputNumbers). not (input.kind == DISK)) (λ input. ¬ (input.kind ≡ DISK))
+    (λ input. Decides-not (input.kind == DISK) (Decides-eqb input.kind DISK))
 
 -- numbers in their ranges, and a list that is not too long
 decides-few : {X : Type 0} (most : ℕ) (test : X → Bool) (P : X → Type 0) → ((x : X) → Decides (test x) (P x)) → (xs : List X)
@@ -30,8 +37,9 @@ decides-start : (start : Start) → Decides (start_fits start) (StartFits start)
 decides-start start =
     let registers = decides-all (λ register. nat_lt register (2 ^ 32)) (λ register. register < 2 ^ 32) (λ register. Decides-ltb register (2 ^ 32)) start.registers in
     let words = Decides-and _ _ (Decides-and _ _ registers (Decides-ltb start.h (2 ^ 32))) (Decides-ltb start.pc COUNTER_END) in
-    Decides-like (start_fits start) (λ h. (h.0.0.0.0, h.0.0.0.1, h.0.0.1, h.0.1, h.1)) (λ h. ((((h.0, h.1), h.2), h.3), h.4))
-    (Decides-and _ (timer_fits start.rate start.phase) (Decides-and _ _ words (Decides-ltb start.flags 16)) (λ h. h, λ h. h))
+    let timer = Decides-and _ (timer_fits start.rate start.phase) (Decides-and _ _ words (Decides-ltb start.flags 16)) (λ h. h, λ h. h) in
+    Decides-like (start_fits start) (λ h. (h.0.0.0.0.0, h.0.0.0.0.1, h.0.0.0.1, h.0.0.1, h.0.1, h.1)) (λ h. (((((h.0, h.1), h.2), h.3), h.4), h.5))
+    (Decides-and _ _ timer (Decides-ltb start.disk (2 ^ 32)))
 
 decides-page : (page : PageText) → Decides (page_fits page) (PageFits page)
 decides-page page = Decides-and _ _ (Decides-ltb page.at 1024) (decides-le (length page.hex) 2048)
@@ -49,7 +57,7 @@ decides-range draft =
     (λ h. (((h.start, h.pages), h.inputs), h.checkpoints))
     (Decides-and _ _
     (Decides-and _ _ (Decides-and _ _ (decides-start draft.start) (decides-few 1024 page_fits PageFits decides-page draft.pages))
-    (decides-few MAX_EVENTS input_fits InputFits decides-input draft.inputs))
+    (decides-few (max_inputs draft.version) input_fits InputFits decides-input draft.inputs))
     (decides-few LAST_CHECKPOINT count_fits CountFits decides-count draft.checkpoints))
 
 -- ---- order

@@ -8,7 +8,7 @@ use Rattle.std.specs.List.Sorted.{IsStrictlyIncreasing}
 use Rattle.std.specs.Prelude.{slice_index}
 use Rattle.risc_pages.proofs.PoolLemmas.{zero_number}
 use Rattle.oberon_session.proofs.Begun.{length-numbered}
-use Rattle.oberon_session.proofs.StoredPages.{numbered-none, numbered-suc}
+use Rattle.oberon_session.proofs.PagesStored.{numbered-none, numbered-suc}
 use Rattle.oberon_session.specs.Digits.{PlacedWords}
 use Rattle.oberon_session.specs.Laws.{FirstTableLaw}
 use Rattle.oberon_session.specs.Recorded.{numbered}

@@ -17,19 +17,19 @@ use Rattle.oberon_format.proofs.CheckpointLemmas.{checkpoint_at-is}
 use Rattle.oberon_format.specs.CheckpointParts.{CheckpointParts, checkpoint_parts, no_checkpoint}
 use Rattle.oberon_format.specs.declared.checkpoint.Checkpoint.{Checkpoint}
 use Rattle.oberon_format.specs.Defined.{Outcome, claim_of, claimed}
-use Rattle.oberon_format.specs.Recording.{IsFit, IsLawful, IsUnanswered, RecordingParts, checkpoint_at, last_of, parts_of}
+use Rattle.oberon_format.specs.Recording.{IsFit, IsLawfulWithDisk, IsUnanswered, RecordingParts, checkpoint_at, last_of, parts_of}
+use Rattle.oberon_format.specs.Text.{IsPlain}
 use Rattle.oberon_session.proofs.Contents.{Leads, memory-stored, table_words-grown}
 use Rattle.oberon_session.proofs.StoredLaws.{stored-law}
 use Rattle.oberon_session.proofs.LawfulMore.{lawful-more}
-use Rattle.oberon_session.specs.Extended.{HasRoom, IsBegun, IsExtendFault, IsExtended, outcome_of}
+use Rattle.oberon_session.specs.Extended.{FitInputs, HasNoAnswer, HasRoom, IsBegun, IsExtendFault, IsExtended, outcome_of}
 use Rattle.oberon_session.specs.declared.claim.Claim.{Claim}
 use Rattle.oberon_session.specs.declared.extend_fault.ExtendFault.{ExtendFault}
 use Rattle.oberon_session.specs.declared.extend_fault.ExtendFault.TheVariants as fault
 use Rattle.oberon_session.specs.declared.storing.StoredPages.{StoredPages}
-use Rattle.oberon_session.specs.Stored.{Stored, new_pages}
+use Rattle.oberon_session.specs.Stored.{Stored, new_pages, stored_view}
 use Rattle.oberon_session.specs.Laws.{IsTableOf}
 use Rattle.oberon_session.specs.inner.Growing.{HasGrown, NeedsPages, claim_checkpoint, last_stored, stored_on}
-use Rattle.oberon_session.specs.inner.Progress.{stored_view}
 
 module _ (stored : Stored) (words : List ℕ) (good : IsTableOf stored) (pages : ArePages stored.pool) (whole : length words ≡ 262144) where
   -- words that are stored are the content of the new table
@@ -40,7 +40,7 @@ module _ (stored : Stored) (words : List ℕ) (good : IsTableOf stored) (pages :
   pub pool-stored : (stored_on stored words).pool ≡ stored.pool ++ new_pages (table_words stored.pool stored.table) words
   pool-stored = (stored-law (table_words stored.pool stored.table) words stored good pages refl whole).pool
 
-module _ (r : RecordingParts) (lawful : IsLawful r) where
+module _ (r : RecordingParts) (lawful : IsLawfulWithDisk r) where
   pub last-fit : IsFit r.pool (checkpoint_at r (last_of r))
   last-fit = lawful.fit (last_of r) (omega (arith, lawful.some))
 
@@ -89,14 +89,25 @@ module _ (r : RecordingParts) (lawful : IsLawful r) where
           ∙ ap (λ (w : List ℕ). record { state = record { cpu = cpu; devices = devices; words = w }; sent = sent }) led.1;
     }
 
+    -- a plain recording stays plain if no disk answers
+    pub is-plain-more : IsPlain r → FitInputs r inputs outcome → HasNoAnswer inputs outcome → IsPlain new
+    is-plain-more plain fit none = record {
+      few = omega (arith, fit.plain plain none, length-append r.inputs inputs);
+      unanswered = record {
+        inputs = All-append (λ e. ¬ (IsOfDisk e)) r.inputs inputs plain.unanswered.inputs none.0;
+        checkpoints = All-append IsUnanswered r.checkpoints (next ∷ []) plain.unanswered.checkpoints
+            (All-cons IsUnanswered next [] none.1 (All-nil IsUnanswered));
+      };
+    }
+
     -- it is lawful if it exceeds no limit
     module _ (room : HasRoom r inputs count outcome) (few : length stored-next.pool ≤ MAX_PAGES) (pages : ArePages stored-next.pool)
         (cpus : IsCpuState cpu) (states : IsDeviceState devices) (bytes : All (λ byte. byte < 2 ^ 8) sent) where
-      with-inputs : IsLawful (record r { inputs = r.inputs ++ inputs })
+      with-inputs : IsLawfulWithDisk (record r { inputs = r.inputs ++ inputs })
       with-inputs = record {
         pages = lawful.pages;
         pool = lawful.pool;
-        events = omega (arith, room.inputs_fit, length-append r.inputs inputs);
+        events = omega (arith, room.inputs_fit.few, length-append r.inputs inputs);
         ordered = room.next.ordered;
         some = lawful.some;
         few = lawful.few;
@@ -105,10 +116,6 @@ module _ (r : RecordingParts) (lawful : IsLawful r) where
         silent = lawful.silent;
         output = lawful.output;
         fit = lawful.fit;
-        unanswered = record {
-          inputs = All-append (λ e. ¬ (IsOfDisk e)) r.inputs inputs lawful.unanswered.inputs room.unanswered.0;
-          checkpoints = lawful.unanswered.checkpoints;
-        };
       }
 
       next-fits : IsFit stored-next.pool next
@@ -121,7 +128,7 @@ module _ (r : RecordingParts) (lawful : IsLawful r) where
         bytes = bytes;
       }
 
-      pub is-lawful-more : IsLawful new
+      pub is-lawful-more : IsLawfulWithDisk new
       is-lawful-more =
           let grown = led.0.grown in
           let more = lawful-more (record r { inputs = r.inputs ++ inputs }) led.0.extra next with-inputs
@@ -129,11 +136,11 @@ module _ (r : RecordingParts) (lawful : IsLawful r) where
           (subst ArePages grown pages)
           room.checkpoint_fits room.next.later
           (subst (λ (p : List (List ℕ)). IsFit p next) grown next-fits)
-          room.unanswered.1 room.output_fits in
-          subst (λ (p : List (List ℕ)). IsLawful (record { pool = p; inputs = r.inputs ++ inputs; checkpoints = r.checkpoints ++ next ∷ [] })) (sym grown) more
+          room.output_fits in
+          subst (λ (p : List (List ℕ)). IsLawfulWithDisk (record { pool = p; inputs = r.inputs ++ inputs; checkpoints = r.checkpoints ++ next ∷ [] })) (sym grown) more
 
 -- the same for the values of the code
-module _ (r : RecordingParts) (lawful : IsLawful r) (inputs all : List Event) (claim : Claim) (whole : length claim.words.now ≡ 262144)
+module _ (r : RecordingParts) (lawful : IsLawfulWithDisk r) (inputs all : List Event) (claim : Claim) (whole : length claim.words.now ≡ 262144)
     (stored : StoredPages) (checkpoints : List Checkpoint) (grown : HasGrown r claim (stored_view stored) (map checkpoint_parts checkpoints)) (joined : all ≡ r.inputs ++ inputs) where
   abbrev grown-new : RecordingParts
   grown-new = new r lawful inputs claim.count (cpu_state claim.cpu) claim.devices claim.words.now claim.sent.now whole
@@ -149,20 +156,26 @@ module _ (r : RecordingParts) (lawful : IsLawful r) (inputs all : List Event) (c
       (is-extended r lawful inputs claim.count (cpu_state claim.cpu) claim.devices claim.words.now claim.sent.now whole)
 
   pub grown-lawful : claim.cpu.pc < COUNTER_END → claim.cpu.stop ≤ 4 → HasRoom r inputs claim.count (outcome_of claim)
-      → IsLawful (parts_of stored.pool all checkpoints)
+      → IsLawfulWithDisk (parts_of stored.pool all checkpoints)
   grown-lawful counter stop room =
-      subst IsLawful (sym grown-is)
+      subst IsLawfulWithDisk (sym grown-is)
       (is-lawful-more r lawful inputs claim.count (cpu_state claim.cpu) claim.devices claim.words.now claim.sent.now whole room
       (subst (λ (l : Stored). length l.pool ≤ MAX_PAGES) grown.stored_is grown.few)
       (subst (λ (l : Stored). ArePages l.pool) grown.stored_is grown.pages)
       (record { count = claim.cpu.count; registers = claim.cpu.registers; auxiliary = claim.cpu.auxiliary; counter = counter; stops = stop })
       grown.devices grown.bytes)
 
+  pub grown-plain : IsPlain r → FitInputs r inputs (outcome_of claim) → HasNoAnswer inputs (outcome_of claim)
+      → (made : RecordingParts) → made ≡ parts_of stored.pool all checkpoints → IsPlain made
+  grown-plain plain fit none made is =
+      subst IsPlain (sym (is ∙ grown-is))
+      (is-plain-more r lawful inputs claim.count (cpu_state claim.cpu) claim.devices claim.words.now claim.sent.now whole plain fit none)
+
 not-pages : {P : Type 0} (f : ExtendFault) → (f ≡ fault.Memory → ⊥) → (f ≡ fault.Pages → ⊥) → (f ≢ fault.Memory → (f ≡ fault.Pages) × P) → ⊥
 not-pages f memory pages needs = pages (needs memory).0
 
 -- a fault of the pages is one of the recording
-pub too-many-pages : (r : RecordingParts) → IsLawful r → (inputs : List Event) (claim : Claim) → length claim.words.now ≡ 262144
+pub too-many-pages : (r : RecordingParts) → IsLawfulWithDisk r → (inputs : List Event) (claim : Claim) → length claim.words.now ≡ 262144
     → HasRoom r inputs claim.count (outcome_of claim) → (f : ExtendFault)
     → NeedsPages (last_stored r) claim.words.now f → IsExtendFault r inputs claim.count (outcome_of claim) f
 too-many-pages r lawful inputs claim whole room fault.Pending needs = absurd (not-pages fault.Pending (λ e. let no : fault.Pending ≡ fault.Memory = e in cc) (λ e. let no : fault.Pending ≡ fault.Pages = e in cc) needs)
@@ -170,7 +183,6 @@ too-many-pages r lawful inputs claim whole room fault.Order needs = absurd (not-
 too-many-pages r lawful inputs claim whole room fault.Inputs needs = absurd (not-pages fault.Inputs (λ e. let no : fault.Inputs ≡ fault.Memory = e in cc) (λ e. let no : fault.Inputs ≡ fault.Pages = e in cc) needs)
 too-many-pages r lawful inputs claim whole room fault.Checkpoints needs = absurd (not-pages fault.Checkpoints (λ e. let no : fault.Checkpoints ≡ fault.Memory = e in cc) (λ e. let no : fault.Checkpoints ≡ fault.Pages = e in cc) needs)
 too-many-pages r lawful inputs claim whole room fault.Output needs = absurd (not-pages fault.Output (λ e. let no : fault.Output ≡ fault.Memory = e in cc) (λ e. let no : fault.Output ≡ fault.Pages = e in cc) needs)
-too-many-pages r lawful inputs claim whole room fault.Disk needs = absurd (not-pages fault.Disk (λ e. let no : fault.Disk ≡ fault.Memory = e in cc) (λ e. let no : fault.Disk ≡ fault.Pages = e in cc) needs)
 too-many-pages r lawful inputs claim whole room fault.Pages needs =
     let many = (needs (λ e. let no : fault.Pages ≡ fault.Memory = e in cc)).1 in
     let stored = pool-stored (last_stored r) claim.words.now (last-table r lawful) lawful.pool whole in
@@ -215,8 +227,8 @@ module _ (cpu : CpuState) (devices : DeviceState) (words : List ℕ) (whole : le
     claims = ap (λ (w : List ℕ). record { state = record { cpu = cpu; devices = devices; words = w }; sent = [] }) first-led.1;
   }
 
-  pub lawful-begun : IsCpuState cpu → IsDeviceState devices → devices.disk ≡ UNANSWERED → length first-stored.pool ≤ 1024 → ArePages first-stored.pool → IsLawful begun
-  lawful-begun cpus states unanswered few pages = record {
+  pub lawful-begun : IsCpuState cpu → IsDeviceState devices → length first-stored.pool ≤ 1024 → ArePages first-stored.pool → IsLawfulWithDisk begun
+  lawful-begun cpus states few pages = record {
     pages = omega arith;
     pool = pages;
     events = omega arith;
@@ -237,6 +249,11 @@ module _ (cpu : CpuState) (devices : DeviceState) (words : List ℕ) (whole : le
           named = first-led.0.table.named;
           bytes = λ j d within. absurd (omega arith);
         });
+  }
+
+  pub plain-begun : devices.disk ≡ UNANSWERED → IsPlain begun
+  plain-begun unanswered = record {
+    few = omega arith;
     unanswered = record {
       inputs = All-nil (λ e. ¬ (IsOfDisk e));
       checkpoints = All-cons IsUnanswered first [] unanswered (All-nil IsUnanswered);
@@ -245,10 +262,10 @@ module _ (cpu : CpuState) (devices : DeviceState) (words : List ℕ) (whole : le
 
 -- ---- the last checkpoint of parts
 
-module _ (r : RecordingParts) (lawful : IsLawful r) (pool : List (List ℕ)) (inputs : List Event) (checkpoints : List Checkpoint)
+module _ (r : RecordingParts) (lawful : IsLawfulWithDisk r) (pool : List (List ℕ)) (inputs : List Event) (checkpoints : List Checkpoint)
     (is : parts_of pool inputs checkpoints ≡ r) (last : Checkpoint) (k : ℕ) (end : k ≡ length checkpoints - 1) (at : last ≡ get_or checkpoints k last) where
-  own : IsLawful (parts_of pool inputs checkpoints)
-  own = subst IsLawful (sym is) lawful
+  own : IsLawfulWithDisk (parts_of pool inputs checkpoints)
+  own = subst IsLawfulWithDisk (sym is) lawful
 
   many : length (map checkpoint_parts checkpoints) ≡ length checkpoints
   many = length-map checkpoints checkpoint_parts

@@ -3,12 +3,11 @@ use Rattle.std.proofs.Common.{◌≡◌, ℕ, ◌+◌, ◌<◌, ◌≤◌, inl, 
 use Rattle.std.proofs.lemmas.Bool.{cases_lt}
 use Rattle.std.proofs.lemmas.Grind.{common_steps}
 use Rattle.std.proofs.lemmas.List.{get_or_push, length_push}
-use Rattle.std.proofs.lemmas.List.Elements.{All-append, All-cons, All-nil}
 use Rattle.risc_pages.specs.Pages.{ArePages}
 use Rattle.recording_limits.specs.declared.limits.TheConstants.{LAST_CHECKPOINT, MAX_OUTPUT, MAX_PAGES}
 use Rattle.oberon_format.proofs.Output.{output_of_push}
 use Rattle.oberon_format.specs.CheckpointParts.{CheckpointParts, no_checkpoint}
-use Rattle.oberon_format.specs.Recording.{IsFit, IsLawful, IsUnanswered, RecordingParts, checkpoint_at, count_at, last_of, output_of}
+use Rattle.oberon_format.specs.Recording.{IsFit, IsLawfulWithDisk, RecordingParts, checkpoint_at, count_at, last_of, output_of}
 
 -- a checkpoint that fits fits over a larger pool
 fit-grown : (pool extra : List (List ℕ)) (c : CheckpointParts) → IsFit pool c → IsFit (pool ++ extra) c
@@ -31,9 +30,9 @@ module _ (r : RecordingParts) (extra : List (List ℕ)) (c : CheckpointParts) wh
   at-last : checkpoint_at more (length r.checkpoints) ≡ c
   at-last = get_or_push r.checkpoints c no_checkpoint (length r.checkpoints) refl
 
-  pub lawful-more : IsLawful r → length (r.pool ++ extra) ≤ MAX_PAGES → ArePages (r.pool ++ extra) → length r.checkpoints ≤ LAST_CHECKPOINT
-      → count_at r (last_of r) < c.count → IsFit (r.pool ++ extra) c → IsUnanswered c → length (output_of r.checkpoints) + length c.sent ≤ MAX_OUTPUT → IsLawful more
-  lawful-more lawful pages pool few rises fit unanswered output =
+  pub lawful-more : IsLawfulWithDisk r → length (r.pool ++ extra) ≤ MAX_PAGES → ArePages (r.pool ++ extra) → length r.checkpoints ≤ LAST_CHECKPOINT
+      → count_at r (last_of r) < c.count → IsFit (r.pool ++ extra) c → length (output_of r.checkpoints) + length c.sent ≤ MAX_OUTPUT → IsLawfulWithDisk more
+  lawful-more lawful pages pool few rises fit output =
       let long = length_push r.checkpoints c in
       record {
         pages = pages;
@@ -64,9 +63,4 @@ module _ (r : RecordingParts) (extra : List (List ℕ)) (c : CheckpointParts) wh
               let this : length r.checkpoints ≡ k = omega arith in
               subst (λ (j : ℕ). IsFit (r.pool ++ extra) (checkpoint_at more j)) this (subst (IsFit (r.pool ++ extra)) (sym at-last) fit)
         ];
-        unanswered = record {
-          inputs = lawful.unanswered.inputs;
-          checkpoints = All-append IsUnanswered r.checkpoints (c ∷ []) lawful.unanswered.checkpoints
-              (All-cons IsUnanswered c [] unanswered (All-nil IsUnanswered));
-        };
       }

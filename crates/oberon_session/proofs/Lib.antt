@@ -7,8 +7,8 @@ mod Lawful
 mod PartLemmas
 mod RuleLemmas
 pub mod Runs
-mod StoredPages
-mod Contents
+pub mod PagesStored
+pub mod Contents
 mod Steps
 mod LawfulMore
 mod Next
@@ -23,3 +23,4 @@ mod FirstTables
 mod Deciding
 pub mod Table
 pub mod OneAnswers
+pub mod Plain

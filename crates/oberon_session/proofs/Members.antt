@@ -8,7 +8,16 @@ use Rattle.std.specs.Ordering.{match_ordering}
 use Rattle.serde_json.proofs.Views.{get_member-put, get_member-put_other}
 use Rattle.serde_json.specs.Data.{Data, Members, array, boolean, member, no_members, null, number, object, put, string}
 use Rattle.serde_json.specs.Find.{as_object, as_str, get_member}
-use Rattle.oberon_session.specs.Draft.{Draft, InputNumbers, Members as MembersOf, PageText, Start, draft_of, input_of, inputs_of, page_names, page_of, pages_of, session_names, start_names, start_of, version_of}
+use Rattle.std.proofs.lemmas.Bool.{false_from_ne_true, ne_eqb}
+use Rattle.std.proofs.lemmas.List.Elements.{All-map}
+use Rattle.std.specs.List.{All, list_all}
+use Rattle.std.specs.Prelude.{◌↔◌, ◌≢◌, not}
+use Rattle.risc_devices.specs.declared.kinds.TheConstants.{DISK}
+use Rattle.oberon_session.proofs.Deciding.{decides-unanswered}
+use Rattle.oberon_session.proofs.Mapped.{unmapped}
+use Rattle.oberon_session.specs.declared.draft.InputDraft.{InputDraft}
+use Rattle.oberon_session.specs.inner.Drafts.{input_view}
+use Rattle.oberon_session.specs.Draft.{Draft, InputNumbers, Members as MembersOf, PageText, Start, draft_of, input_of, inputs_of, known_inputs, page_names, page_of, pages_of, session_names, start_names, start_of, version_of}
 use Rattle.oberon_session.specs.Shape.{◌>>=◌, are_among, each, is_among, items_of, number_of, numbers_of, text_of}
 use Rattle.oberon_session.specs.inner.Found.{draft_found, names_format, page_found, page_in, session_found, start_found, start_in, start_object, with_item, with_page_member, with_session_member, with_start_member}
 
@@ -88,7 +97,9 @@ start-any : (k : List ℕ) (d : Data) (ms : Members) → start_found (put k d ms
   rate = cond (bytes_eq k (codes "rate")) (Some d) (get_member (codes "rate") ms) >>= number_of;
   phase = cond (bytes_eq k (codes "phase")) (Some d) (get_member (codes "phase") ms) >>= number_of;
   fits_version_1 = is_among (start_names 1) k && are_among (start_names 1) ms;
+  disk = cond (bytes_eq k (codes "disk")) (Some d) (get_member (codes "disk") ms) >>= number_of;
   fits_version_2 = is_among (start_names 2) k && are_among (start_names 2) ms;
+  fits_version_3 = is_among (start_names 3) k && are_among (start_names 3) ms;
 }
 start-any k d ms = λ i. record {
   registers = get-put (codes "R") k d ms i >>= numbers_of;
@@ -98,31 +109,38 @@ start-any k d ms = λ i. record {
   rate = get-put (codes "rate") k d ms i >>= number_of;
   phase = get-put (codes "phase") k d ms i >>= number_of;
   fits_version_1 = among-put (start_names 1) k d ms i;
+  disk = get-put (codes "disk") k d ms i >>= number_of;
   fits_version_2 = among-put (start_names 2) k d ms i;
+  fits_version_3 = among-put (start_names 3) k d ms i;
 }
 
 pub start-put : (k : List ℕ) (d : Data) (ms : Members) → start_found (put k d ms) ≡ with_start_member k d (start_found ms)
-start-put k d ms = go (bytes_eq k (codes "R")) (bytes_eq k (codes "H")) (bytes_eq k (codes "PC")) (bytes_eq k (codes "flags")) (bytes_eq k (codes "rate")) (bytes_eq k (codes "phase")) refl refl refl refl refl refl
+start-put k d ms = go (bytes_eq k (codes "R")) (bytes_eq k (codes "H")) (bytes_eq k (codes "PC")) (bytes_eq k (codes "flags")) (bytes_eq k (codes "rate")) (bytes_eq k (codes "phase")) (bytes_eq k (codes "disk")) refl refl refl refl refl refl refl
   where
-    go : (a b c e f g : Bool) → bytes_eq k (codes "R") ≡ a → bytes_eq k (codes "H") ≡ b → bytes_eq k (codes "PC") ≡ c → bytes_eq k (codes "flags") ≡ e
-        → bytes_eq k (codes "rate") ≡ f → bytes_eq k (codes "phase") ≡ g → start_found (put k d ms) ≡ with_start_member k d (start_found ms)
-    go true b c e f g is1 is2 is3 is4 is5 is6 = rw (named k (codes "R") is1) (start-any (codes "R") d ms)
-    go false true c e f g is1 is2 is3 is4 is5 is6 = rw (named k (codes "H") is2) (start-any (codes "H") d ms)
-    go false false true e f g is1 is2 is3 is4 is5 is6 = rw (named k (codes "PC") is3) (start-any (codes "PC") d ms)
-    go false false false true f g is1 is2 is3 is4 is5 is6 = rw (named k (codes "flags") is4) (start-any (codes "flags") d ms)
-    go false false false false true g is1 is2 is3 is4 is5 is6 = rw (named k (codes "rate") is5) (start-any (codes "rate") d ms)
-    go false false false false false true is1 is2 is3 is4 is5 is6 = rw (named k (codes "phase") is6) (start-any (codes "phase") d ms)
-    go false false false false false false is1 is2 is3 is4 is5 is6 = start-any k d ms ∙ rw (is1, is2, is3, is4, is5, is6) refl
+    go : (a b c e f g h : Bool) → bytes_eq k (codes "R") ≡ a → bytes_eq k (codes "H") ≡ b → bytes_eq k (codes "PC") ≡ c → bytes_eq k (codes "flags") ≡ e
+        → bytes_eq k (codes "rate") ≡ f → bytes_eq k (codes "phase") ≡ g → bytes_eq k (codes "disk") ≡ h → start_found (put k d ms) ≡ with_start_member k d (start_found ms)
+    go true b c e f g h is1 is2 is3 is4 is5 is6 is7 = rw (named k (codes "R") is1) (start-any (codes "R") d ms)
+    go false true c e f g h is1 is2 is3 is4 is5 is6 is7 = rw (named k (codes "H") is2) (start-any (codes "H") d ms)
+    go false false true e f g h is1 is2 is3 is4 is5 is6 is7 = rw (named k (codes "PC") is3) (start-any (codes "PC") d ms)
+    go false false false true f g h is1 is2 is3 is4 is5 is6 is7 = rw (named k (codes "flags") is4) (start-any (codes "flags") d ms)
+    go false false false false true g h is1 is2 is3 is4 is5 is6 is7 = rw (named k (codes "rate") is5) (start-any (codes "rate") d ms)
+    go false false false false false true h is1 is2 is3 is4 is5 is6 is7 = rw (named k (codes "phase") is6) (start-any (codes "phase") d ms)
+    go false false false false false false true is1 is2 is3 is4 is5 is6 is7 = rw (named k (codes "disk") is7) (start-any (codes "disk") d ms)
+    go false false false false false false false is1 is2 is3 is4 is5 is6 is7 = start-any k d ms ∙ rw (is1, is2, is3, is4, is5, is6, is7) refl
 
 start-of : (version : ℕ) (ms : Members) → start_of version (object ms) ≡ start_in version (start_found ms)
-start-of version ms = go (version == 1) refl (are_among (start_names 1) ms) (are_among (start_names 2) ms) refl refl
+start-of version ms =
+    go (version == 1) (version == 3) (are_among (start_names 1) ms) (are_among (start_names 2) ms) (are_among (start_names 3) ms) refl refl refl refl refl
   where
-    go : (one : Bool) → (version == 1) ≡ one → (fits_version_1 fits_version_2 : Bool) → are_among (start_names 1) ms ≡ fits_version_1 → are_among (start_names 2) ms ≡ fits_version_2
+    go : (one three : Bool) (fits_version_1 fits_version_2 fits_version_3 : Bool) → (version == 1) ≡ one → (version == 3) ≡ three
+        → are_among (start_names 1) ms ≡ fits_version_1 → are_among (start_names 2) ms ≡ fits_version_2 → are_among (start_names 3) ms ≡ fits_version_3
         → start_of version (object ms) ≡ start_in version (start_found ms)
-    go true is true fits_version_2 is1 is2 = rw (is, is1) refl
-    go true is false fits_version_2 is1 is2 = rw (is, is1) refl
-    go false is fits_version_1 true is1 is2 = rw (is, is2) refl
-    go false is fits_version_1 false is1 is2 = rw (is, is2) refl
+    go true three true b c is third is1 is2 is3 = rw (is, is1) refl
+    go true three false b c is third is1 is2 is3 = rw (is, is1) refl
+    go false true a b true is third is1 is2 is3 = rw (is, third, is3) refl
+    go false true a b false is third is1 is2 is3 = rw (is, third, is3) refl
+    go false false a true c is third is1 is2 is3 = rw (is, third, is2) refl
+    go false false a false c is third is1 is2 is3 = rw (is, third, is2) refl
 
 start-of-value : (version : ℕ) (json : Data) → start_of version json ≡ (start_object json >>= start_in version)
 start-of-value version null = refl
@@ -168,31 +186,31 @@ session-put k d ms =
     go false false false false false false is1 is2 is3 is4 is5 is6 = session-any k d ms ∙ rw (is1, is2, is3, is4, is5, is6) refl
 
 -- the draft of these four members
-drafted : Option Start → Option (List PageText) → Option (List InputNumbers) → Option (List ℕ) → Option Draft
-drafted a b c d = do
+drafted : ℕ → Option Start → Option (List PageText) → Option (List InputNumbers) → Option (List ℕ) → Option Draft
+drafted version a b c d = do
   start ← a
   pages ← b
   inputs ← c
   checkpoints ← d
-  Some (record { start = start; pages = pages; inputs = inputs; checkpoints = checkpoints })
+  Some (record { version = version; start = start; pages = pages; inputs = inputs; checkpoints = checkpoints })
 
-no-pages : (a : Option Start) (c : Option (List InputNumbers)) (d : Option (List ℕ)) → None ≡ drafted a None c d
+no-pages : (version : ℕ) (a : Option Start) (c : Option (List InputNumbers)) (d : Option (List ℕ)) → None ≡ drafted version a None c d
 unfolding drafted
-no-pages None c d = refl
-no-pages (Some x) c d = refl
+no-pages version None c d = refl
+no-pages version (Some x) c d = refl
 
-no-inputs : (a : Option Start) (b : Option (List PageText)) (d : Option (List ℕ)) → None ≡ drafted a b None d
+no-inputs : (version : ℕ) (a : Option Start) (b : Option (List PageText)) (d : Option (List ℕ)) → None ≡ drafted version a b None d
 unfolding drafted
-no-inputs None b d = refl
-no-inputs (Some x) None d = refl
-no-inputs (Some x) (Some y) d = refl
+no-inputs version None b d = refl
+no-inputs version (Some x) None d = refl
+no-inputs version (Some x) (Some y) d = refl
 
-no-checkpoints : (a : Option Start) (b : Option (List PageText)) (c : Option (List InputNumbers)) → None ≡ drafted a b c None
+no-checkpoints : (version : ℕ) (a : Option Start) (b : Option (List PageText)) (c : Option (List InputNumbers)) → None ≡ drafted version a b c None
 unfolding drafted
-no-checkpoints None b c = refl
-no-checkpoints (Some x) None c = refl
-no-checkpoints (Some x) (Some y) None = refl
-no-checkpoints (Some x) (Some y) (Some z) = refl
+no-checkpoints version None b c = refl
+no-checkpoints version (Some x) None c = refl
+no-checkpoints version (Some x) (Some y) None = refl
+no-checkpoints version (Some x) (Some y) (Some z) = refl
 
 bind-assoc : {A B C : Type 0} (o : Option A) (f : A → Option B) (g : B → Option C) → ((o >>= f) >>= g) ≡ (o >>= λ x. f x >>= g)
 bind-assoc None f g = refl
@@ -212,16 +230,17 @@ draft-of-four version a b c d = do
   members ← members-of-four version a b c d
   start ← start_of members.version members.start
   pages ← pages_of members.pages
-  inputs ← inputs_of members.inputs
+  inputs ← inputs_of members.inputs >>= known_inputs members.version
   checkpoints ← numbers_of members.checkpoints
-  Some (record { start = start; pages = pages; inputs = inputs; checkpoints = checkpoints })
+  Some (record { version = members.version; start = start; pages = pages; inputs = inputs; checkpoints = checkpoints })
 
-four : (version : ℕ) (a b c d : Option Data) → draft-of-four version a b c d ≡ drafted (a >>= start_of version) (b >>= pages_of) (c >>= inputs_of) (d >>= numbers_of)
+four : (version : ℕ) (a b c d : Option Data)
+    → draft-of-four version a b c d ≡ drafted version (a >>= start_of version) (b >>= pages_of) ((c >>= inputs_of) >>= known_inputs version) (d >>= numbers_of)
 unfolding members-of-four draft-of-four drafted
 four version None b c d = refl
-four version (Some x) None c d = no-pages (start_of version x) (c >>= inputs_of) (d >>= numbers_of)
-four version (Some x) (Some y) None d = no-inputs (start_of version x) (pages_of y) (d >>= numbers_of)
-four version (Some x) (Some y) (Some z) None = no-checkpoints (start_of version x) (pages_of y) (inputs_of z)
+four version (Some x) None c d = no-pages version (start_of version x) ((c >>= inputs_of) >>= known_inputs version) (d >>= numbers_of)
+four version (Some x) (Some y) None d = no-inputs version (start_of version x) (pages_of y) (d >>= numbers_of)
+four version (Some x) (Some y) (Some z) None = no-checkpoints version (start_of version x) (pages_of y) (inputs_of z >>= known_inputs version)
 four version (Some x) (Some y) (Some z) (Some w) = refl
 
 start-of-member : (version : ℕ) (a : Option Data) → (a >>= start_of version) ≡ ((a >>= start_object) >>= start_in version)
@@ -232,12 +251,14 @@ draft-of-parts : (version : ℕ) (a b c d : Option Data) → draft-of-four versi
   members ← a >>= start_object
   start ← start_in version members
   pages ← b >>= pages_of
-  inputs ← c >>= inputs_of
+  inputs ← (c >>= inputs_of) >>= known_inputs version
   checkpoints ← d >>= numbers_of
-  Some (record { start = start; pages = pages; inputs = inputs; checkpoints = checkpoints })
+  Some (record { version = version; start = start; pages = pages; inputs = inputs; checkpoints = checkpoints })
 unfolding drafted
 draft-of-parts version a b c d =
-    four version a b c d ∙ ap (λ s. drafted s (b >>= pages_of) (c >>= inputs_of) (d >>= numbers_of)) (start-of-member version a) ∙ bind-assoc (a >>= start_object) (start_in version) _
+    four version a b c d
+    ∙ ap (λ s. drafted version s (b >>= pages_of) ((c >>= inputs_of) >>= known_inputs version) (d >>= numbers_of)) (start-of-member version a)
+    ∙ bind-assoc (a >>= start_object) (start_in version) _
 
 module _ (ms : Members) where
   by-version : are_among session_names ms ≡ true → (format : Data) → get_member (codes "format") ms ≡ Some format → (t : List ℕ) → as_str format ≡ Some t
@@ -302,6 +323,25 @@ with_item-map {A = A} {B = B} view all found item is = over all ∙ ap (option_m
 pub one-more-read : {A X : Type 0} (read : A → Option X) (taken : List A) (d : A) (all found : Option (List X)) (item : Option X) → all ≡ with_item found item → found ≡ each read taken → item ≡ read d
     → all ≡ each read (taken ++ d ∷ [])
 one-more-read read taken d all found item is before last = is ∙ ap₂ with_item before last ∙ sym (each-more read taken d)
+
+-- ---- inputs of the kinds that a version has
+
+module _ (version : ℕ) (drafts : List InputDraft) where
+  inputs-known : All (λ (input : InputDraft). ¬ (input.kind ≡ DISK)) drafts ↔ (list_all (λ (input : InputNumbers). not (input.kind == DISK)) (map input_view drafts) ≡ true)
+  inputs-known =
+      let decided = decides-unanswered (map input_view drafts) in (
+        λ none. decided.1 (All-map (λ (input : InputNumbers). ¬ (input.kind ≡ DISK)) input_view drafts none),
+        λ test. unmapped input_view (λ (input : InputNumbers). ¬ (input.kind ≡ DISK)) drafts (decided.0 test),
+      )
+
+  pub known-third : version ≡ 3 → Some (map input_view drafts) ≡ known_inputs version (map input_view drafts)
+  known-third third = rw third refl
+
+  pub known-unanswered : version ≢ 3 → All (λ (input : InputDraft). ¬ (input.kind ≡ DISK)) drafts → Some (map input_view drafts) ≡ known_inputs version (map input_view drafts)
+  known-unanswered other none = rw (ne_eqb version 3 other, inputs-known.0 none) refl
+
+  pub unknown : version ≢ 3 → ¬ (All (λ (input : InputDraft). ¬ (input.kind ≡ DISK)) drafts) → None ≡ known_inputs version (map input_view drafts)
+  unknown other some = rw (ne_eqb version 3 other, false_from_ne_true _ (λ test. some (inputs-known.1 test))) refl
 
 -- ---- values of another kind
 

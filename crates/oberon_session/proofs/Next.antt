@@ -6,25 +6,19 @@ use Rattle.std.specs.List.{All}
 use Rattle.risc_devices.specs.DeviceState.{IsDeviceState}
 use Rattle.risc_pages.specs.Tables.{IsNamed, table_words}
 use Rattle.risc_pages.specs.Pages.{ArePages}
-use Rattle.risc_model.proofs.DiskLemmas.{disk_law-holds}
 use Rattle.risc_model.specs.MachineState.{IsCpuState}
 use Rattle.recording_limits.specs.declared.limits.TheConstants.{MAX_OUTPUT, MAX_PAGES}
 use Rattle.oberon_format.proofs.Output.{output_of_push}
 use Rattle.oberon_format.specs.CheckpointParts.{CheckpointParts, no_checkpoint}
-use Rattle.oberon_format.specs.Recording.{IsFit, IsLawful, IsUnanswered, RecordingParts, count_at, output_of}
+use Rattle.oberon_format.specs.Recording.{IsFit, IsLawfulWithDisk, RecordingParts, count_at, output_of}
 use Rattle.oberon_session.proofs.Contents.{Leads, memory-stored, table_words-grown}
 use Rattle.oberon_session.proofs.LawfulMore.{lawful-more}
 use Rattle.oberon_session.proofs.Steps.{count-fits, count-rises, stored_of-next, nothing-too-much, output-on}
 use Rattle.oberon_session.specs.Stored.{Stored}
 use Rattle.oberon_session.specs.Laws.{IsTableOf}
-use Rattle.oberon_session.specs.Recorded.{checkpoint_of, count_of, first_state, stored_of, output_between, output_up_to, state_of}
-use Rattle.oberon_session.specs.SessionParts.{SessionParts, IsLawful as IsLawfulSession}
+use Rattle.oberon_session.specs.Recorded.{checkpoint_of, count_of, stored_of, output_between, output_up_to, state_of}
+use Rattle.oberon_session.specs.SessionParts.{SessionParts, IsLawfulWithDisk as IsLawfulSession}
 use Rattle.oberon_session.specs.inner.Progress.{IsContentOf, IsRecorded, checkpoints_to}
-
--- no instruction changes the disk's answer, so no checkpoint of a session has one
-pub unanswered-at : (s : SessionParts) → IsLawfulSession s → (k : ℕ) → IsUnanswered (checkpoint_of s k)
-unfolding checkpoint_of first_state
-unanswered-at s lawful k = disk_law-holds.1 s.inputs 0 (count_of s k) (first_state s) lawful.unanswered
 
 module _ (s : SessionParts) where
   -- what is recorded up to checkpoint k, as functions of the session
@@ -129,7 +123,7 @@ module _ (s : SessionParts) where
         let last : length (checkpoints_to s k) - 1 ≡ k = omega (arith, length-checkpoints k) in
         ap (λ (j : ℕ). count_at (recorded_to k) j) last ∙ ap (λ (c : CheckpointParts). c.count) (checkpoint-there k k (omega arith)) ∙ count-of k
 
-    lawful-next : IsLawful (recorded_to (k + 1))
+    lawful-next : IsLawfulWithDisk (recorded_to (k + 1))
     lawful-next =
         let grown = stores.0.grown in
         let whole-output = ap length output-more in
@@ -141,10 +135,9 @@ module _ (s : SessionParts) where
         (omega (arith, length-checkpoints k, lawful.counts.0))
         (omega (arith, last-count, count-of (k + 1), count-rises s lawful k inside))
         (subst (λ (p : List (List ℕ)). IsFit p (checkpoint_of s (k + 1))) grown next-fits)
-        (unanswered-at s lawful (k + 1))
         (omega (arith, whole-output, sums, parts, good.output)) in
-        subst (λ (p : List (List ℕ)). IsLawful (record { pool = p; inputs = s.inputs; checkpoints = checkpoints_to s (k + 1) })) (sym grown)
-        (subst (λ (cs : List CheckpointParts). IsLawful (record { pool = (stored_of s k).pool ++ stores.0.extra; inputs = s.inputs; checkpoints = cs })) (sym (checkpoints-more k)) more)
+        subst (λ (p : List (List ℕ)). IsLawfulWithDisk (record { pool = p; inputs = s.inputs; checkpoints = checkpoints_to s (k + 1) })) (sym grown)
+        (subst (λ (cs : List CheckpointParts). IsLawfulWithDisk (record { pool = (stored_of s k).pool ++ stores.0.extra; inputs = s.inputs; checkpoints = cs })) (sym (checkpoints-more k)) more)
 
     content-next : (j : ℕ) → j ≤ k + 1 → IsContentOf s (stored_of s (k + 1)).pool j
     content-next j low = elim (cases_lt j (k + 1)) [

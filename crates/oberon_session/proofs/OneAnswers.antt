@@ -3,13 +3,13 @@ use Rattle.std.proofs.Common.{◌≡◌, ◌∙◌, ℕ, List, [], ◌∷◌, Op
 use Rattle.std.proofs.lemmas.List.Elements.{All-head, All-tail}
 use Rattle.std.specs.List.{All}
 use Rattle.std.specs.Prelude.{Result, Ok, Err}
-use Rattle.risc_devices.proofs.InputLemmas.{input_of, input_with_disk, kind_of-input_of, same_input, value_of-input_of}
+use Rattle.risc_devices.proofs.InputLemmas.{input_of, kind_of-input_of, same_input, value_of-input_of}
 use Rattle.risc_model.specs.declared.event.Event.{Event}
 use Rattle.oberon_format.proofs.One.{same_event}
 use Rattle.oberon_session.proofs.Table.{faultless}
 use Rattle.oberon_session.specs.Draft.{Draft, InputNumbers}
 use Rattle.oberon_session.specs.Laws.{IsAnswer}
-use Rattle.oberon_session.specs.Rules.{draft_in, first_fault_of}
+use Rattle.oberon_session.specs.Rules.{draft_in, first_fault_up_to}
 use Rattle.oberon_session.specs.Session.{Describes, cpu_of, numbers_of_event}
 use Rattle.oberon_session.specs.SessionParts.{SessionParts}
 use Rattle.oberon_session.specs.inner.Tested.{InputFits}
@@ -34,14 +34,13 @@ same-events (e ∷ es) (f ∷ fs) same =
     λ i. e-is i ∷ es-are i
 
 event-of : (input : InputNumbers) → InputFits input → Event
-event-of input fits = record { count = input.count; input = input_of input.kind input.value (input_with_disk input.kind input.value fits.1); range = omega (arith, fits.0) }
+event-of input fits = record { count = input.count; input = input_of input.kind input.value fits.1; range = omega (arith, fits.0) }
 
 event-of-is : (input : InputNumbers) (fits : InputFits input) → numbers_of_event (event-of input fits) ≡ input
 unfolding event-of
 event-of-is input fits =
-    let lawful = input_with_disk input.kind input.value fits.1 in
-    let kind = kind_of-input_of input.kind input.value lawful in
-    let value = value_of-input_of input.kind input.value lawful in
+    let kind = kind_of-input_of input.kind input.value fits.1 in
+    let value = value_of-input_of input.kind input.value fits.1 in
     λ i. record { count = input.count; kind = kind i; value = value i }
 
 events-of : (inputs : List InputNumbers) → All InputFits inputs → (es : List Event) × (map numbers_of_event es ≡ inputs)
@@ -61,16 +60,18 @@ same-session draft a b x y =
     let pages : a.pages ≡ b.pages = cc in
     let rate : a.rate ≡ b.rate = x.rate ∙ sym y.rate in
     let phase : a.phase ≡ b.phase = x.phase ∙ sym y.phase in
+    let disk : a.disk ≡ b.disk = x.disk ∙ sym y.disk in
     let inputs : a.inputs ≡ b.inputs = same-events a.inputs b.inputs (x.inputs ∙ sym y.inputs) in
     let counts : a.counts ≡ b.counts = x.counts ∙ sym y.counts in
-    λ i. record { cpu = cpu i; rate = rate i; phase = phase i; pages = pages i; inputs = inputs i; counts = counts i }
+    λ i. record { cpu = cpu i; rate = rate i; phase = phase i; disk = disk i; pages = pages i; inputs = inputs i; counts = counts i }
 
 -- the bytes have this answer, and no other one
-abbrev HasAnswer : List ℕ → Type 0
-HasAnswer bytes = (answer : Result SessionParts SessionFault) × IsAnswer bytes answer × ((other : Result SessionParts SessionFault) → IsAnswer bytes other → other ≡ answer)
+abbrev HasAnswer : ℕ → List ℕ → Type 0
+HasAnswer newest bytes =
+    (answer : Result SessionParts SessionFault) × IsAnswer newest bytes answer × ((other : Result SessionParts SessionFault) → IsAnswer newest bytes other → other ≡ answer)
 
-module _ (bytes : List ℕ) where
-  only-fault : (fault : SessionFault) → first_fault_of bytes ≡ Some fault → (other : Result SessionParts SessionFault) → IsAnswer bytes other → other ≡ Err fault
+module _ (newest : ℕ) (bytes : List ℕ) where
+  only-fault : (fault : SessionFault) → first_fault_up_to newest bytes ≡ Some fault → (other : Result SessionParts SessionFault) → IsAnswer newest bytes other → other ≡ Err fault
   only-fault fault is (Ok session) h =
       let bad : None ≡ Some fault = sym h.0 ∙ is in
       absurd cc
@@ -79,8 +80,8 @@ module _ (bytes : List ℕ) where
       let same : own ≡ fault = cc in
       ap Err same
 
-  only-session : (draft : Draft) (session : SessionParts) → first_fault_of bytes ≡ None → draft_in bytes ≡ Some draft → Describes draft session
-      → (other : Result SessionParts SessionFault) → IsAnswer bytes other → other ≡ Ok session
+  only-session : (draft : Draft) (session : SessionParts) → first_fault_up_to newest bytes ≡ None → draft_in newest bytes ≡ Some draft → Describes draft session
+      → (other : Result SessionParts SessionFault) → IsAnswer newest bytes other → other ≡ Ok session
   only-session draft session none shape described (Ok other) h =
       let some : Some h.1 ≡ Some draft = sym h.2 ∙ shape in
       let same : h.1 ≡ draft = cc in
@@ -89,15 +90,15 @@ module _ (bytes : List ℕ) where
       let bad : None ≡ Some fault = sym none ∙ h in
       absurd cc
 
-  answered : (fault : Option SessionFault) → first_fault_of bytes ≡ fault → HasAnswer bytes
+  answered : (fault : Option SessionFault) → first_fault_up_to newest bytes ≡ fault → HasAnswer newest bytes
   answered (Some fault) is = (Err fault, is, only-fault fault is)
   answered None none =
-      let text = faultless bytes none in
+      let text = faultless newest bytes none in
       let made = events-of text.draft.inputs text.range.inputs.1 in
       let start = text.draft.start in
-      let session : SessionParts = record { cpu = cpu_of start; rate = start.rate; phase = start.phase; pages = text.pages; inputs = made.0; counts = text.draft.checkpoints } in
-      let described : Describes text.draft session = record { cpu = refl; rate = refl; phase = refl; pages = text.placed; inputs = made.1; counts = refl } in
+      let session : SessionParts = record { cpu = cpu_of start; rate = start.rate; phase = start.phase; disk = start.disk; pages = text.pages; inputs = made.0; counts = text.draft.checkpoints } in
+      let described : Describes text.draft session = record { cpu = refl; rate = refl; phase = refl; disk = refl; pages = text.placed; inputs = made.1; counts = refl } in
       (Ok session, (none, text.draft, text.shape, described), only-session text.draft session none text.shape described)
 
-pub one-answer : (bytes : List ℕ) → HasAnswer bytes
-one-answer bytes = answered bytes (first_fault_of bytes) refl
+pub one-answer : (newest : ℕ) (bytes : List ℕ) → HasAnswer newest bytes
+one-answer newest bytes = answered newest bytes (first_fault_up_to newest bytes) refl

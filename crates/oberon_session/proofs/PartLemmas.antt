@@ -1,6 +1,7 @@
 -- Parts of a session that break no rule are lawful, and lawful parts break none.
-use Rattle.std.proofs.Common.{◌<◌, ℕ, List, arith}
+use Rattle.std.proofs.Common.{◌<◌, ℕ, List, arith, refl}
 use Rattle.std.specs.List.Sorted.{IsStrictlyIncreasing}
+use Rattle.risc_devices.specs.declared.disk.TheConstants.{UNANSWERED}
 use Rattle.risc_model.specs.declared.cpu.Cpu.{Cpu}
 use Rattle.risc_model.specs.declared.event.Event.{Event}
 use Rattle.risc_model.specs.InputOrder.{AreOrdered}
@@ -16,7 +17,7 @@ use Rattle.oberon_session.specs.declared.fault.SessionFault.TheVariants.{Json, S
 
 module _ (cpu : Cpu) (rate phase : ℕ) (pages : List PlacedPage) (inputs : List Event) (counts : List ℕ) where
   abbrev s : SessionParts
-  s = session_of_parts cpu rate phase pages inputs counts
+  s = session_of_parts cpu rate phase UNANSWERED pages inputs counts
 
   pub in-range : PartsFit cpu rate phase pages inputs counts → AreInRange s
   in-range fit =
@@ -48,42 +49,45 @@ module _ (cpu : Cpu) (rate phase : ℕ) (pages : List PlacedPage) (inputs : List
 
   pub parts-lawful : AreInRange s → AreInOrder s → AreOrdered inputs → IsLawful s
   parts-lawful range order ordered = record {
-    cpu = record {
-      count = cpu.count;
-      registers = cpu.registers;
-      auxiliary = cpu.auxiliary;
-      counter = range.counter;
-      stops = omega (arith, range.running);
+    within = record {
+      cpu = record {
+        count = cpu.count;
+        registers = cpu.registers;
+        auxiliary = cpu.auxiliary;
+        counter = range.counter;
+        stops = omega (arith, range.running);
+      };
+      running = range.running;
+      timer = range.timer;
+      disk = omega arith;
+      few = range.few;
+      slots = range.slots;
+      rising = order.slots;
+      contents = whole-pages pages;
+      events = omega (arith, range.events);
+      ordered = ordered;
+      counts = range.counts;
+      rises = order.counts;
     };
-    running = range.running;
-    timer = range.timer;
-    few = range.few;
-    slots = range.slots;
-    rising = order.slots;
-    contents = whole-pages pages;
-    events = range.events;
-    ordered = ordered;
-    unanswered = range.unanswered;
-    counts = range.counts;
-    rises = order.counts;
+    plain = record { begins = refl; unanswered = range.unanswered; few_inputs = range.events };
   }
 
 -- ---- lawful parts break no rule
 
 pub lawful-range : (s : SessionParts) → IsLawful s → AreInRange s
 lawful-range s lawful = record {
-  counter = lawful.cpu.counter;
-  running = lawful.running;
-  timer = lawful.timer;
-  few = lawful.few;
-  slots = lawful.slots;
-  events = lawful.events;
-  unanswered = lawful.unanswered;
-  counts = lawful.counts;
+  counter = lawful.within.cpu.counter;
+  running = lawful.within.running;
+  timer = lawful.within.timer;
+  few = lawful.within.few;
+  slots = lawful.within.slots;
+  events = lawful.plain.few_inputs;
+  unanswered = lawful.plain.unanswered;
+  counts = lawful.within.counts;
 }
 
 pub lawful-order : (s : SessionParts) → IsLawful s → AreInOrder s
-lawful-order s lawful = record { slots = lawful.rising; counts = lawful.rises }
+lawful-order s lawful = record { slots = lawful.within.rising; counts = lawful.within.rises }
 
 pub breaks-unlawful : (s : SessionParts) (fault : SessionFault) → BreaksParts s fault → IsLawful s → ⊥
 breaks-unlawful s Json broken lawful = broken

@@ -16,10 +16,10 @@ use Rattle.oberon_format.specs.Defined.{claim_of}
 use Rattle.oberon_format.specs.Recording.{IsFit}
 use Rattle.oberon_session.proofs.Next.{IsGoodNext, Recorded, checkpoint-there, checkpoints-more, count-of, fit-there, length-checkpoints, recorded-next, recorded-so, so-recorded}
 use Rattle.oberon_session.proofs.Steps.{count-rises, count_of-next, stored_of-next, output-on, state-on, too-many-pages, too-much-output}
-use Rattle.oberon_session.specs.Stored.{Stored, changed_pages, store, store_pages}
+use Rattle.oberon_session.specs.Stored.{Stored, changed_pages, store, store_pages, changed_page_view}
 use Rattle.oberon_session.specs.Recorded.{checkpoint_of, count_of, stored_of, output_between, output_up_to, record_fault_of, state_of}
-use Rattle.oberon_session.specs.SessionParts.{SessionParts, IsLawful}
-use Rattle.oberon_session.specs.inner.Progress.{IsReached, IsRecorded, checkpoints_to, changed_page_view}
+use Rattle.oberon_session.specs.SessionParts.{SessionParts, IsLawfulWithDisk}
+use Rattle.oberon_session.specs.inner.Progress.{IsReached, IsRecorded, checkpoints_to}
 use Rattle.oberon_session.specs.declared.running.Reached.{Reached}
 use Rattle.oberon_session.specs.declared.record_fault.RecordFault.TheVariants as fault
 
@@ -84,7 +84,7 @@ module _ {s : SessionParts} {k : ℕ} {stored : Stored} (checkpoints : List Chec
         ap (λ (c : CheckpointParts). (claim_of stored.pool c).state) last-is
         ∙ claimed-is s k stored.pool (so.content k (omega arith))
 
-    module _ (lawful : IsLawful s) (within : k < length s.counts) {es : List Event} (same : es ≡ s.inputs) {count : ℕ} (next : count ≡ count_of s (k + 1)) where
+    module _ (lawful : IsLawfulWithDisk s) (within : k < length s.counts) {es : List Event} (same : es ≡ s.inputs) {count : ℕ} (next : count ≡ count_of s (k + 1)) where
       on : count_of s k ≤ count_of s (k + 1)
       on = omega (arith, count-rises s lawful k within)
 

@@ -10,7 +10,7 @@ use Rattle.oberon_session.specs.declared.fault.SessionFault.TheVariants.{Json, S
 use Rattle.oberon_session.specs.declared.draft.Draft.{Draft as DraftValue}
 
 module _ (d : DraftValue) where
-  pub in-range : NumbersFit d → InputsFit (map input_view d.inputs.items) → InRange (draft_view d)
+  pub in-range : NumbersFit d → InputsFit d.version (map input_view d.inputs.items) → InRange (draft_view d)
   in-range fit inputs =
       record { start = fit.0; pages = (mapped-fit 1024 PageFits page_view d.pages.items).0 fit.1; inputs = inputs; checkpoints = fit.2 }
 
@@ -24,7 +24,7 @@ module _ (d : DraftValue) where
   pub numbers-rise : InOrder (draft_view d) → NumbersRise d
   numbers-rise order = ((mapped-rises (λ (page : PageText). page.at) page_view d.pages.items).1 order.pages, order.checkpoints)
 
-  pub breaks-inputs : NumbersFit d → (fault : SessionFault) → BreaksInputs (map input_view d.inputs.items) fault → BreaksDraft (draft_view d) fault
+  pub breaks-inputs : NumbersFit d → (fault : SessionFault) → BreaksInputs d.version (map input_view d.inputs.items) fault → BreaksDraft (draft_view d) fault
   breaks-inputs fit Json h = h
   breaks-inputs fit Shape h = h
   breaks-inputs fit Range h = λ range. h range.inputs

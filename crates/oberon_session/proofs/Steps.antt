@@ -9,7 +9,7 @@ use Rattle.risc_model.specs.declared.inputs.TheConstants.{MAX_COUNT}
 use Rattle.oberon_session.proofs.Runs.{run-on, sent-on}
 use Rattle.oberon_session.specs.Stored.{store}
 use Rattle.oberon_session.specs.Recorded.{count_of, fault_at, first_fault, first_stored, first_state, stored_of, output_between, output_up_to, record_fault_of, state_at, state_of}
-use Rattle.oberon_session.specs.SessionParts.{CountFits, SessionParts, IsLawful}
+use Rattle.oberon_session.specs.SessionParts.{CountFits, SessionParts, IsLawfulWithDisk}
 use Rattle.oberon_session.specs.declared.record_fault.RecordFault.{RecordFault}
 use Rattle.oberon_session.specs.declared.record_fault.RecordFault.TheVariants as fault
 use Rattle.recording_limits.specs.declared.limits.TheConstants.{MAX_OUTPUT, MAX_PAGES}
@@ -132,7 +132,7 @@ module _ (s : SessionParts) where
 
 -- ---- counts of a lawful session
 
-module _ (s : SessionParts) (lawful : IsLawful s) where
+module _ (s : SessionParts) (lawful : IsLawfulWithDisk s) where
   fits : (k : ℕ) → k < length s.counts → CountFits (slice_index s.counts k)
   fits k inside = lawful.counts.1 k 0 inside
 

@@ -10,7 +10,7 @@ use Rattle.risc_pages.proofs.DeltaLemmas.{AreDifferences-changed_below}
 use Rattle.risc_pages.specs.Delta.{changed_below}
 use Rattle.risc_pages.specs.Pages.{page_at}
 use Rattle.oberon_session.proofs.Contents.{blank-is, memory-stored, other-is}
-use Rattle.oberon_session.proofs.StoredPages.{with-page}
+use Rattle.oberon_session.proofs.PagesStored.{with-page}
 use Rattle.oberon_session.specs.Stored.{Stored, is_blank, store, store_page, store_pages}
 use Rattle.oberon_session.specs.Laws.{StoredLaw}
 

@@ -13,10 +13,10 @@ use Rattle.serde_json.specs.Read.{read}
 use Rattle.oberon_format.specs.FirstFault.{Rule, first_broken}
 use Rattle.oberon_session.proofs.Deciding.{decides-order, decides-range}
 use Rattle.oberon_session.specs.Digits.{PlacedWords, all_placed_of}
-use Rattle.oberon_session.specs.Draft.{Draft, draft_of}
+use Rattle.oberon_session.specs.Draft.{Draft, draft_of, draft_up_to}
 use Rattle.oberon_session.specs.Ranges.{in_order, in_range}
-use Rattle.oberon_session.specs.Rules.{draft_in, first_fault_of, in_digits, json_of, rules, draft_meets}
-use Rattle.oberon_session.specs.Session.{Breaks, Fits, IsSession}
+use Rattle.oberon_session.specs.Rules.{draft_in, first_fault_up_to, in_digits, json_of, rules, draft_meets}
+use Rattle.oberon_session.specs.Session.{BreaksUpTo, Fits, IsSessionUpTo}
 use Rattle.oberon_session.specs.SessionParts.{SessionParts}
 use Rattle.oberon_session.specs.Shape.{◌>>=◌}
 use Rattle.oberon_session.specs.inner.Tested.{BreaksDraft, BreaksIn, BreaksOf, InOrder, InRange, IsSessionIn, IsSessionOf}
@@ -29,7 +29,7 @@ abbrev IsJson : List ℕ → Data → Type 0
 IsJson bytes json = IsUtf8 bytes × (read bytes ≡ Some json)
 
 -- the rules of bytes: whether they are few enough, their value, and its draft
-abbrev table : Bool → Option Data → Option Draft → Option SessionFault
+abbrev pub table : Bool → Option Data → Option Draft → Option SessionFault
 table fits json draft =
     first_broken ((fits, Range) ∷ (is_some json, Json) ∷ (is_some draft, Shape) ∷ (draft_meets in_range draft, Range) ∷ (draft_meets in_order draft, Order) ∷ (draft_meets in_digits draft, Hex) ∷ [])
 
@@ -37,23 +37,23 @@ table fits json draft =
 abbrev table-on : Draft → Option SessionFault
 table-on draft = first_broken ((in_range draft, Range) ∷ (in_order draft, Order) ∷ (in_digits draft, Hex) ∷ [])
 
-module _ (bytes : List ℕ) where
-  by-table : first_fault_of bytes ≡ table (nat_le (length bytes) LONGEST_SESSION) (json_of bytes) (draft_in bytes)
-  unfolding first_fault_of
+module _ (newest : ℕ) (bytes : List ℕ) where
+  pub by-table : first_fault_up_to newest bytes ≡ table (nat_le (length bytes) LONGEST_SESSION) (json_of bytes) (draft_in newest bytes)
+  unfolding first_fault_up_to
   by-table = refl
 
   -- there are too many bytes
-  pub fault-long : LONGEST_SESSION < length bytes → first_fault_of bytes ≡ Some Range
-  fault-long long = by-table ∙ ap (λ (fits : Bool). table fits (json_of bytes) (draft_in bytes)) (lt-leb (length bytes) LONGEST_SESSION long)
+  pub fault-long : LONGEST_SESSION < length bytes → first_fault_up_to newest bytes ≡ Some Range
+  fault-long long = by-table ∙ ap (λ (fits : Bool). table fits (json_of bytes) (draft_in newest bytes)) (lt-leb (length bytes) LONGEST_SESSION long)
 
   module _ (fits : Fits bytes) where
-    by-json : (json : Option Data) → json_of bytes ≡ json → first_fault_of bytes ≡ table true json (json >>= draft_of)
+    by-json : (json : Option Data) → json_of bytes ≡ json → first_fault_up_to newest bytes ≡ table true json (json >>= draft_up_to newest)
     by-json json is =
-        by-table ∙ ap (λ (b : Bool). table b (json_of bytes) (draft_in bytes)) (le-leb (length bytes) LONGEST_SESSION fits)
-        ∙ ap (λ (j : Option Data). table true j (j >>= draft_of)) is
+        by-table ∙ ap (λ (b : Bool). table b (json_of bytes) (draft_in newest bytes)) (le-leb (length bytes) LONGEST_SESSION fits)
+        ∙ ap (λ (j : Option Data). table true j (j >>= draft_up_to newest)) is
 
     -- they have no value
-    pub fault-json : (IsUtf8 bytes → read bytes ≡ None) → first_fault_of bytes ≡ Some Json
+    pub fault-json : (IsUtf8 bytes → read bytes ≡ None) → first_fault_up_to newest bytes ≡ Some Json
     fault-json none = by-json None (go (is_utf8 bytes) refl)
       where
         go : (b : Bool) → is_utf8 bytes ≡ b → cond b (read bytes) None ≡ None
@@ -65,11 +65,20 @@ module _ (bytes : List ℕ) where
       value-is : json_of bytes ≡ Some json
       value-is = cond-true (is_utf8 bytes) (read bytes) None (is_utf8-from_IsUtf8 bytes is.0) ∙ is.1
 
-      by-draft : (draft : Option Draft) → draft_of json ≡ draft → first_fault_of bytes ≡ table true (Some json) draft
+      by-draft : (draft : Option Draft) → draft_up_to newest json ≡ draft → first_fault_up_to newest bytes ≡ table true (Some json) draft
       by-draft draft shape = by-json (Some json) value-is ∙ ap (λ (d : Option Draft). table true (Some json) d) shape
 
-      draft-is : (draft : Draft) → draft_of json ≡ Some draft → draft_in bytes ≡ Some draft
-      draft-is draft shape = ap (λ (j : Option Data). j >>= draft_of) value-is ∙ shape
+      draft-is : (draft : Draft) → draft_up_to newest json ≡ Some draft → draft_in newest bytes ≡ Some draft
+      draft-is draft shape = ap (λ (j : Option Data). j >>= draft_up_to newest) value-is ∙ shape
+
+-- ---- the version of a draft
+
+-- a draft of a newer version has not the shape
+pub newer-draft : (newest : ℕ) (json : Data) (draft : Draft) → draft_of json ≡ Some draft → newest < draft.version → draft_up_to newest json ≡ None
+newer-draft newest json draft is newer = rw (is, lt-leb draft.version newest newer) refl
+
+pub known-draft : (newest : ℕ) (json : Data) (draft : Draft) → draft_of json ≡ Some draft → draft.version ≤ newest → draft_up_to newest json ≡ Some draft
+known-draft newest json draft is known = rw (is, le-leb draft.version newest known) refl
 
 -- ---- a draft
 
@@ -99,42 +108,42 @@ module _ (draft : Draft) where
 
 -- ---- from the tests of a value to the rules of its bytes
 
-module _ (bytes : List ℕ) (fits : Fits bytes) (json : Data) (is : IsJson bytes json) where
-  on-draft : (draft : Draft) → draft_of json ≡ Some draft → first_fault_of bytes ≡ table-on draft
-  on-draft draft shape = by-draft bytes fits json is (Some draft) shape
+module _ (newest : ℕ) (bytes : List ℕ) (fits : Fits bytes) (json : Data) (is : IsJson bytes json) where
+  on-draft : (draft : Draft) → draft_up_to newest json ≡ Some draft → first_fault_up_to newest bytes ≡ table-on draft
+  on-draft draft shape = by-draft newest bytes fits json is (Some draft) shape
 
-  breaks-text : (fault : SessionFault) → BreaksIn json fault → Breaks bytes fault
+  breaks-text : (fault : SessionFault) → BreaksIn newest json fault → BreaksUpTo newest bytes fault
   breaks-text Json h = absurd h
-  breaks-text Shape h = by-draft bytes fits json is None h
+  breaks-text Shape h = by-draft newest bytes fits json is None h
   breaks-text Range h = on-draft h.0 h.1 ∙ on-range h.0 h.2
   breaks-text Order h = on-draft h.0 h.1 ∙ on-order h.0 h.2 h.3
   breaks-text Hex h = on-draft h.0 h.1 ∙ on-digits h.0 h.2 h.3 None h.4
   breaks-text Memory h = fits
 
-  session-text : (session : SessionParts) → IsSessionIn json session → IsSession bytes session
+  session-text : (session : SessionParts) → IsSessionIn newest json session → IsSessionUpTo newest bytes session
   session-text session h =
-      (on-draft h.0 h.1 ∙ on-digits h.0 h.2 h.3 (Some session.pages) h.4.pages, h.0, draft-is bytes fits json is h.0 h.1, h.4)
+      (on-draft h.0 h.1 ∙ on-digits h.0 h.2 h.3 (Some session.pages) h.4.pages, h.0, draft-is newest bytes fits json is h.0 h.1, h.4)
 
 -- from the rules of a draft to those of its text
-pub breaks-of : (text : List ℕ) (json : Data) (draft : Draft) → read text ≡ Some json → draft_of json ≡ Some draft → (fault : SessionFault) → BreaksDraft draft fault → BreaksOf text fault
-breaks-of text json draft is shape Json h = absurd h
-breaks-of text json draft is shape Shape h = absurd h
-breaks-of text json draft is shape Range h = (json, is, (draft, shape, h))
-breaks-of text json draft is shape Order h = (json, is, (draft, shape, h.0, h.1))
-breaks-of text json draft is shape Hex h = (json, is, (draft, shape, h.0, h.1, h.2))
-breaks-of text json draft is shape Memory h = tt
+pub breaks-of : (newest : ℕ) (text : List ℕ) (json : Data) (draft : Draft) → read text ≡ Some json → draft_up_to newest json ≡ Some draft → (fault : SessionFault) → BreaksDraft draft fault → BreaksOf newest text fault
+breaks-of newest text json draft is shape Json h = absurd h
+breaks-of newest text json draft is shape Shape h = absurd h
+breaks-of newest text json draft is shape Range h = (json, is, (draft, shape, h))
+breaks-of newest text json draft is shape Order h = (json, is, (draft, shape, h.0, h.1))
+breaks-of newest text json draft is shape Hex h = (json, is, (draft, shape, h.0, h.1, h.2))
+breaks-of newest text json draft is shape Memory h = tt
 
-module _ (bytes : List ℕ) (fits : Fits bytes) (utf8 : IsUtf8 bytes) where
-  pub breaks-bytes : (fault : SessionFault) → BreaksOf bytes fault → Breaks bytes fault
-  breaks-bytes Json h = fault-json bytes fits (λ text. h)
-  breaks-bytes Shape h = breaks-text bytes fits h.0 (utf8, h.1) Shape h.2
-  breaks-bytes Range h = breaks-text bytes fits h.0 (utf8, h.1) Range h.2
-  breaks-bytes Order h = breaks-text bytes fits h.0 (utf8, h.1) Order h.2
-  breaks-bytes Hex h = breaks-text bytes fits h.0 (utf8, h.1) Hex h.2
+module _ (newest : ℕ) (bytes : List ℕ) (fits : Fits bytes) (utf8 : IsUtf8 bytes) where
+  pub breaks-bytes : (fault : SessionFault) → BreaksOf newest bytes fault → BreaksUpTo newest bytes fault
+  breaks-bytes Json h = fault-json newest bytes fits (λ text. h)
+  breaks-bytes Shape h = breaks-text newest bytes fits h.0 (utf8, h.1) Shape h.2
+  breaks-bytes Range h = breaks-text newest bytes fits h.0 (utf8, h.1) Range h.2
+  breaks-bytes Order h = breaks-text newest bytes fits h.0 (utf8, h.1) Order h.2
+  breaks-bytes Hex h = breaks-text newest bytes fits h.0 (utf8, h.1) Hex h.2
   breaks-bytes Memory h = fits
 
-  pub session-bytes : (session : SessionParts) → IsSessionOf bytes session → IsSession bytes session
-  session-bytes session h = session-text bytes fits h.0 (utf8, h.1) session h.2
+  pub session-bytes : (session : SessionParts) → IsSessionOf newest bytes session → IsSessionUpTo newest bytes session
+  session-bytes session h = session-text newest bytes fits h.0 (utf8, h.1) session h.2
 
 -- ---- bytes that break no rule
 
@@ -148,24 +157,24 @@ some-of (Some x) h = (x, refl)
 some-of None h = absurd cc
 
 -- their session
-pub record IsFaultless (bytes : List ℕ) : Type 0 where
+pub record IsFaultless (newest : ℕ) (bytes : List ℕ) : Type 0 where
   pub draft : Draft
-  pub shape : draft_in bytes ≡ Some draft
+  pub shape : draft_in newest bytes ≡ Some draft
   pub range : InRange draft
   pub order : InOrder draft
   pub pages : List PlacedWords
   pub placed : all_placed_of draft.pages ≡ Some pages
 
-pub faultless : (bytes : List ℕ) → first_fault_of bytes ≡ None → IsFaultless bytes
-unfolding first_fault_of
-faultless bytes none =
-    let hold = all-hold (rules bytes) none in
+pub faultless : (newest : ℕ) (bytes : List ℕ) → first_fault_up_to newest bytes ≡ None → IsFaultless newest bytes
+unfolding first_fault_up_to
+faultless newest bytes none =
+    let hold = all-hold (rules newest bytes) none in
     let rule : Rule SessionFault = (true, Json) in
-    let shaped : is_some (draft_in bytes) ≡ true = hold 2 rule (omega arith) in
-    let ranged : draft_meets in_range (draft_in bytes) ≡ true = hold 3 rule (omega arith) in
-    let ordered : draft_meets in_order (draft_in bytes) ≡ true = hold 4 rule (omega arith) in
-    let written : draft_meets in_digits (draft_in bytes) ≡ true = hold 5 rule (omega arith) in
-    let found = some-of (draft_in bytes) shaped in
+    let shaped : is_some (draft_in newest bytes) ≡ true = hold 2 rule (omega arith) in
+    let ranged : draft_meets in_range (draft_in newest bytes) ≡ true = hold 3 rule (omega arith) in
+    let ordered : draft_meets in_order (draft_in newest bytes) ≡ true = hold 4 rule (omega arith) in
+    let written : draft_meets in_digits (draft_in newest bytes) ≡ true = hold 5 rule (omega arith) in
+    let found = some-of (draft_in newest bytes) shaped in
     let placed = some-of (all_placed_of found.0.pages) (sym (ap (draft_meets in_digits) found.1) ∙ written) in
     record {
       draft = found.0;
@@ -179,7 +188,7 @@ faultless bytes none =
 -- ---- bytes that are cut off
 
 -- bytes that are cut off where there are already too many have the fault of all of them
-pub fault-cut : (n : ℕ) (bytes : List ℕ) → LONGEST_SESSION < n → n ≤ length bytes → first_fault_of (take n bytes) ≡ first_fault_of bytes
-fault-cut n bytes over within =
+pub fault-cut : (newest n : ℕ) (bytes : List ℕ) → LONGEST_SESSION < n → n ≤ length bytes → first_fault_up_to newest (take n bytes) ≡ first_fault_up_to newest bytes
+fault-cut newest n bytes over within =
     let long : LONGEST_SESSION < length (take n bytes) = simp length-take (omega arith) in
-    fault-long (take n bytes) long ∙ sym (fault-long bytes (omega arith))
+    fault-long newest (take n bytes) long ∙ sym (fault-long newest bytes (omega arith))

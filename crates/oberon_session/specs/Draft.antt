@@ -1,8 +1,11 @@
--- What a JSON value of the shape of a session, version 1 or 2, says. The format is this project's own.
-use Rattle.std.specs.Prelude.{◌==◌, ◌||◌, ℕ, List, [], ◌∷◌, length, Option, Some, None, if◌then◌else◌, codes}
+-- What a JSON value of the shape of a session, version 1, 2 or 3, says. The format is this project's own.
+use Rattle.std.specs.Prelude.{◌==◌, ◌||◌, ℕ, nat_le, List, [], ◌∷◌, length, not, Option, Some, None, if◌then◌else◌, codes}
+use Rattle.std.specs.List.{list_all}
 use Rattle.std.specs.Str.{bytes_eq}
 use Rattle.serde_json.specs.Data.{Data}
 use Rattle.serde_json.specs.Find.{get}
+use Rattle.risc_devices.specs.declared.disk.TheConstants.{UNANSWERED}
+use Rattle.risc_devices.specs.declared.kinds.TheConstants.{DISK}
 use Rattle.oberon_session.specs.Shape.{◌>>=◌, each, items_of, number_of, numbers_of, only, only_if, text_of}
 
 -- the numbers of the initial state
@@ -13,6 +16,7 @@ pub record Start : Type 0 where
   pub flags : ℕ
   pub rate : ℕ
   pub phase : ℕ
+  pub disk : ℕ
 
 -- a page: its slot, and its digits
 pub record PageText : Type 0 where
@@ -27,6 +31,7 @@ pub record InputNumbers : Type 0 where
 
 -- a session whose shape is right; ranges and order are not tested
 pub record Draft : Type 0 where
+  pub version : ℕ
   pub start : Start
   pub pages : List PageText
   pub inputs : List InputNumbers
@@ -34,24 +39,30 @@ pub record Draft : Type 0 where
 
 -- ---- the shape
 
--- the number of the version, if it is 1 or 2
+-- the number of the version, if it is 1, 2 or 3
 abbrev pub version_of : Data → Option ℕ
 version_of json = do
   version ← number_of json
-  only_if (version == 1 || version == 2) version
+  only_if (version == 1 || (version == 2 || version == 3)) version
 
--- a number that version 2 has by this name, and that is 0 in version 1
+-- a number that versions 2 and 3 have by this name, and that is 0 in version 1
 abbrev pub since_2 : ℕ → List ℕ → Data → Option ℕ
 since_2 version name json = if version == 1 then Some 0 else get name json >>= number_of
+
+-- the number that only version 3 has: what the disk answered last. In versions 1 and 2 it has not answered
+abbrev pub since_3 : ℕ → Data → Option ℕ
+since_3 version json = if version == 3 then get (codes "disk") json >>= number_of else Some UNANSWERED
 
 -- the names of the members of the initial state
 abbrev pub start_names : ℕ → List (List ℕ)
 start_names version =
     if version == 1 then codes "R" ∷ codes "H" ∷ codes "PC" ∷ codes "flags" ∷ []
+    else if version == 3 then
+    codes "R" ∷ codes "H" ∷ codes "PC" ∷ codes "flags" ∷ codes "rate" ∷ codes "phase" ∷ codes "disk" ∷ []
     else codes "R" ∷ codes "H" ∷ codes "PC" ∷ codes "flags" ∷ codes "rate" ∷ codes "phase" ∷ []
 
--- an object of exactly these members: R, an array of sixteen numbers; the numbers H, PC and flags; in version 2 the numbers rate
--- and phase
+-- an object of exactly these members: R, an array of sixteen numbers; the numbers H, PC and flags; since version 2 the numbers rate
+-- and phase; in version 3 the number disk
 abbrev pub start_of : ℕ → Data → Option Start
 start_of version json = do
   start ← only (start_names version) json
@@ -60,9 +71,10 @@ start_of version json = do
   flags ← get (codes "flags") start >>= number_of
   rate ← since_2 version (codes "rate") start
   phase ← since_2 version (codes "phase") start
+  disk ← since_3 version start
   registers ← get (codes "R") start >>= numbers_of
   sixteen ← only_if (length registers == 16) registers
-  Some (record { registers = sixteen; h = h; pc = pc; flags = flags; rate = rate; phase = phase })
+  Some (record { registers = sixteen; h = h; pc = pc; flags = flags; rate = rate; phase = phase; disk = disk })
 
 -- the names of the members of a page
 abbrev pub page_names : List (List ℕ)
@@ -84,6 +96,7 @@ kind_of name =
     else if bytes_eq name (codes "mouse") then Some 3
     else if bytes_eq name (codes "key") then Some 4
     else if bytes_eq name (codes "serial") then Some 5
+    else if bytes_eq name (codes "disk") then Some 6
     else None
 
 -- an array of exactly three items: a count, the name of a kind, and a value
@@ -104,6 +117,10 @@ pages_of json = items_of json >>= each page_of
 
 abbrev pub inputs_of : Data → Option (List InputNumbers)
 inputs_of json = items_of json >>= each input_of
+
+-- inputs of kinds that the version has: only version 3 has answers of a disk
+abbrev pub known_inputs : ℕ → List InputNumbers → Option (List InputNumbers)
+known_inputs version inputs = only_if (version == 3 || list_all (λ input. not (input.kind == DISK)) inputs) inputs
 
 -- the version, and the values of the other members but format, which is the same in each session
 pub record Members : Type 0 where
@@ -137,6 +154,10 @@ draft_of json = do
   members ← members_of json
   start ← start_of members.version members.start
   pages ← pages_of members.pages
-  inputs ← inputs_of members.inputs
+  inputs ← inputs_of members.inputs >>= known_inputs members.version
   checkpoints ← numbers_of members.checkpoints
-  Some (record { start = start; pages = pages; inputs = inputs; checkpoints = checkpoints })
+  Some (record { version = members.version; start = start; pages = pages; inputs = inputs; checkpoints = checkpoints })
+
+-- the draft, if its version is at most this one
+abbrev pub draft_up_to : ℕ → Data → Option Draft
+draft_up_to newest json = draft_of json >>= λ draft. only_if (nat_le draft.version newest) draft

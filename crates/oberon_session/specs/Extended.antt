@@ -1,6 +1,6 @@
 -- Recordings that are made while a machine runs: one that begins with a state, and one with one more checkpoint. Nothing here says
 -- that a claim is true.
-use Rattle.std.specs.Prelude.{ℕ, ◌≡◌, ◌≢◌, ◌+◌, ◌<◌, ◌≤◌, List, [], ◌++◌, length}
+use Rattle.std.specs.Prelude.{ℕ, ◌≡◌, ◌+◌, ◌<◌, ◌≤◌, List, [], ◌++◌, length}
 use Rattle.std.specs.List.{All}
 use Rattle.risc_pages.specs.Tables.{table_words, zero_numbers}
 use Rattle.risc_devices.specs.declared.disk.TheConstants.{UNANSWERED}
@@ -9,9 +9,11 @@ use Rattle.risc_model.specs.DiskInputs.{IsOfDisk}
 use Rattle.risc_model.specs.InputOrder.{AreOrdered}
 use Rattle.risc_model.specs.MachineState.{State, cpu_state}
 use Rattle.risc_model.specs.declared.inputs.TheConstants.{MAX_COUNT}
-use Rattle.recording_limits.specs.declared.limits.TheConstants.{LAST_CHECKPOINT, MAX_EVENTS, MAX_OUTPUT, MAX_PAGES}
+use Rattle.recording_limits.specs.declared.limits.TheConstants.{LAST_CHECKPOINT, MAX_EVENTS, MAX_EVENTS_WITH_DISK}
+use Rattle.recording_limits.specs.declared.limits.TheConstants.{MAX_OUTPUT, MAX_PAGES}
 use Rattle.oberon_format.specs.Defined.{Outcome, claimed}
 use Rattle.oberon_format.specs.Recording.{RecordingParts, count_at, last_of, output_of}
+use Rattle.oberon_format.specs.Text.{IsPlain}
 use Rattle.oberon_session.specs.Stored.{new_pages}
 use Rattle.oberon_session.specs.declared.claim.Claim.{Claim}
 use Rattle.oberon_session.specs.declared.extend_fault.ExtendFault.{ExtendFault}
@@ -31,12 +33,6 @@ pub record IsBegun (first : State) (r : RecordingParts) : Type 0 where
   pub one : length r.checkpoints ≡ 1
   pub begins : count_at r 0 ≡ 0
   pub claims : claimed r 0 ≡ record { state = first; sent = [] }
-
--- why a recording does not begin with devices with this answer of a disk: it has no field for an answer; or memory ran out
-abbrev pub IsBeginFault : ℕ → ExtendFault → Type 0
-IsBeginFault disk fault.Disk = disk ≢ UNANSWERED
-IsBeginFault disk fault.Memory = disk ≡ UNANSWERED
-IsBeginFault disk _ = ⊥
 
 -- ---- a recording with one more checkpoint
 
@@ -60,9 +56,15 @@ pub record IsNext (r : RecordingParts) (inputs : List Event) (count : ℕ) : Typ
   pub ordered : AreOrdered (r.inputs ++ inputs)
   pub between : All (λ e. (last_count r ≤ e.count) × (e.count < count)) inputs
 
--- the limits of what a recording may have
-abbrev pub FitInputs : RecordingParts → List Event → Type 0
-FitInputs r inputs = length r.inputs + length inputs ≤ MAX_EVENTS
+-- no new input is an answer of a disk, and the claim has none
+abbrev pub HasNoAnswer : List Event → Outcome → Type 0
+HasNoAnswer inputs claim = All (λ e. ¬ (IsOfDisk e)) inputs × (claim.state.devices.disk ≡ UNANSWERED)
+
+-- the limits of what a recording may have. A plain recording that gets no answer of a disk stays plain, so it may have as many inputs
+-- as a file without a disk; any other may have as many as a file with a disk
+pub record FitInputs (r : RecordingParts) (inputs : List Event) (claim : Outcome) : Type 0 where
+  pub few : length r.inputs + length inputs ≤ MAX_EVENTS_WITH_DISK
+  pub plain : IsPlain r → HasNoAnswer inputs claim → length r.inputs + length inputs ≤ MAX_EVENTS
 
 abbrev pub FitsCheckpoint : RecordingParts → Type 0
 FitsCheckpoint r = length r.checkpoints ≤ LAST_CHECKPOINT
@@ -70,19 +72,14 @@ FitsCheckpoint r = length r.checkpoints ≤ LAST_CHECKPOINT
 abbrev pub FitsOutput : RecordingParts → Outcome → Type 0
 FitsOutput r claim = length (output_of r.checkpoints) + length claim.sent ≤ MAX_OUTPUT
 
--- no new input is an answer of a disk, and the claim has none: a recording has no field for it
-abbrev pub HasNoAnswer : List Event → Outcome → Type 0
-HasNoAnswer inputs claim = All (λ e. ¬ (IsOfDisk e)) inputs × (claim.state.devices.disk ≡ UNANSWERED)
-
 -- all that is tested before anything is stored: the recording has taken its inputs, the checkpoint and the new inputs come next,
--- there is room for the inputs, the checkpoint and the output, and no disk has answered
+-- and there is room for the inputs, the checkpoint and the output
 pub record HasRoom (r : RecordingParts) (inputs : List Event) (count : ℕ) (claim : Outcome) : Type 0 where
   pub taken : HasTakenAll r
   pub next : IsNext r inputs count
-  pub inputs_fit : FitInputs r inputs
+  pub inputs_fit : FitInputs r inputs claim
   pub checkpoint_fits : FitsCheckpoint r
   pub output_fits : FitsOutput r claim
-  pub unanswered : HasNoAnswer inputs claim
 
 -- the recording has these inputs and one more checkpoint
 pub record IsExtended (old : RecordingParts) (inputs : List Event) (count : ℕ) (claim : Outcome) (new : RecordingParts)
@@ -99,19 +96,16 @@ pub record IsExtended (old : RecordingParts) (inputs : List Event) (count : ℕ)
   pub last_claims : claimed new (length old.checkpoints) ≡ claim
 
 -- why a recording is not extended: the first of these rules that is broken, in this order. It has an input at or after its last
--- checkpoint; the checkpoint or a new input does not come next; it would have more inputs, checkpoints or output than a recording may
--- have; a new input or the checkpoint has an answer of a disk; or it would have more pages than a recording may have. Memory can only
--- run out once all rules hold but the last, which the pages decide
+-- checkpoint; the checkpoint or a new input does not come next; or it would have more inputs, checkpoints, output or pages than a
+-- recording may have. Memory can only run out once all rules hold but the last, which the pages decide
 abbrev pub IsExtendFault : RecordingParts → List Event → ℕ → Outcome → ExtendFault → Type 0
 IsExtendFault r inputs count claim fault.Pending = ¬ (HasTakenAll r)
 IsExtendFault r inputs count claim fault.Order = HasTakenAll r × ¬ (IsNext r inputs count)
-IsExtendFault r inputs count claim fault.Inputs = HasTakenAll r × IsNext r inputs count × ¬ (FitInputs r inputs)
+IsExtendFault r inputs count claim fault.Inputs = HasTakenAll r × IsNext r inputs count × ¬ (FitInputs r inputs claim)
 IsExtendFault r inputs count claim fault.Checkpoints =
-    HasTakenAll r × IsNext r inputs count × FitInputs r inputs × ¬ (FitsCheckpoint r)
+    HasTakenAll r × IsNext r inputs count × FitInputs r inputs claim × ¬ (FitsCheckpoint r)
 IsExtendFault r inputs count claim fault.Output =
-    HasTakenAll r × IsNext r inputs count × FitInputs r inputs × FitsCheckpoint r × ¬ (FitsOutput r claim)
-IsExtendFault r inputs count claim fault.Disk =
-    HasTakenAll r × IsNext r inputs count × FitInputs r inputs × FitsCheckpoint r × FitsOutput r claim × ¬ (HasNoAnswer inputs claim)
+    HasTakenAll r × IsNext r inputs count × FitInputs r inputs claim × FitsCheckpoint r × ¬ (FitsOutput r claim)
 IsExtendFault r inputs count claim fault.Pages =
     HasRoom r inputs count claim
     × (MAX_PAGES < length r.pool + length (new_pages (claimed r (last_of r)).state.words claim.state.words))

@@ -7,9 +7,9 @@ use Rattle.risc_pages.specs.Pages.{ArePages, page_at}
 use Rattle.oberon_session.specs.Digits.{PlacedWords}
 use Rattle.oberon_session.specs.Stored.{Stored, is_blank, store, new_pages}
 use Rattle.oberon_session.specs.Recorded.{numbered}
-use Rattle.oberon_session.specs.Rules.{first_fault_of}
-use Rattle.oberon_session.specs.Session.{IsSession}
-use Rattle.oberon_session.specs.SessionParts.{SessionParts, slots_in}
+use Rattle.oberon_session.specs.Rules.{first_fault_up_to}
+use Rattle.oberon_session.specs.Session.{IsSession, IsSessionUpTo, IsSessionWithDisk}
+use Rattle.oberon_session.specs.SessionParts.{IsPlain, SessionParts, slots_in}
 use Rattle.oberon_session.specs.declared.fault.SessionFault.{SessionFault}
 use Rattle.oberon_session.specs.declared.running.TheConstants.{PIECE}
 
@@ -50,16 +50,20 @@ FirstTableLaw =
     → IsFirstTable pages (numbered pages (length pages))
 
 -- the answer to bytes, if memory suffices: their session, or the fault of the first rule that they break
-abbrev pub IsAnswer : List ℕ → Result SessionParts SessionFault → Type 0
-IsAnswer bytes (Ok session) = IsSession bytes session
-IsAnswer bytes (Err fault) = first_fault_of bytes ≡ Some fault
+abbrev pub IsAnswer : ℕ → List ℕ → Result SessionParts SessionFault → Type 0
+IsAnswer newest bytes (Ok session) = IsSessionUpTo newest bytes session
+IsAnswer newest bytes (Err fault) = first_fault_up_to newest bytes ≡ Some fault
 
--- any bytes have exactly one answer
+-- any bytes have exactly one answer, without a disk (newest version 2) and with it (3)
 abbrev pub OneAnswer : Type 0
 OneAnswer =
-    (bytes : List ℕ)
-    → (answer : Result SessionParts SessionFault) × IsAnswer bytes answer
-    × ((other : Result SessionParts SessionFault) → IsAnswer bytes other → other ≡ answer)
+    (newest : ℕ) (bytes : List ℕ)
+    → (answer : Result SessionParts SessionFault) × IsAnswer newest bytes answer
+    × ((other : Result SessionParts SessionFault) → IsAnswer newest bytes other → other ≡ answer)
+
+-- bytes that encode a session without a disk encode the same one with it, and it is one of a machine without a disk
+abbrev pub PlainLaw : Type 0
+PlainLaw = (bytes : List ℕ) (session : SessionParts) → IsSession bytes session → IsSessionWithDisk bytes session × IsPlain session
 
 -- the most steps of a piece by value, so that a mistyped number cannot change a contract unnoticed (this project's own choice)
 abbrev pub HasPiece : Type 0

@@ -23,9 +23,16 @@ abbrev pub placed_view : PlacedPage → PlacedWords
 placed_view p = record { at = p.at; words = p.page.words }
 
 -- the session of these parts
-abbrev pub session_of_parts : Cpu → ℕ → ℕ → List PlacedPage → List Event → List ℕ → SessionParts
-session_of_parts cpu rate phase pages inputs counts =
-    record { cpu = cpu_state cpu; rate = rate; phase = phase; pages = map placed_view pages; inputs = inputs; counts = counts }
+abbrev pub session_of_parts : Cpu → ℕ → ℕ → ℕ → List PlacedPage → List Event → List ℕ → SessionParts
+session_of_parts cpu rate phase disk pages inputs counts = record {
+  cpu = cpu_state cpu;
+  rate = rate;
+  phase = phase;
+  disk = disk;
+  pages = map placed_view pages;
+  inputs = inputs;
+  counts = counts;
+}
 
 -- ---- the rules
 

@@ -1,13 +1,13 @@
 -- The ranges and the order of a session's numbers, as tests. All limits are this project's own choice, except the end of program
 -- counters.
-use Rattle.std.specs.Prelude.{ℕ, ◌^◌, ◌&&◌, nat_le, nat_lt, Bool, true, List, [], ◌∷◌, length, map}
+use Rattle.std.specs.Prelude.{ℕ, ◌^◌, ◌&&◌, ◌==◌, nat_le, nat_lt, Bool, true, List, [], ◌∷◌, length, map, if◌then◌else◌}
 use Rattle.std.specs.List.{list_all}
 use Rattle.risc_core.specs.declared.branch.TheConstants.{COUNTER_END}
 use Rattle.risc_devices.specs.DeviceState.{is_phase}
-use Rattle.risc_devices.specs.InputKind.{is_input}
+use Rattle.risc_devices.specs.InputKind.{is_input_with_disk}
 use Rattle.oberon_session.specs.Draft.{Draft, InputNumbers, PageText, Start}
 use Rattle.risc_model.specs.declared.inputs.TheConstants.{MAX_COUNT}
-use Rattle.recording_limits.specs.declared.limits.TheConstants.{LAST_CHECKPOINT, MAX_EVENTS}
+use Rattle.recording_limits.specs.declared.limits.TheConstants.{LAST_CHECKPOINT, MAX_EVENTS, MAX_EVENTS_WITH_DISK}
 
 -- ---- ranges
 
@@ -15,7 +15,7 @@ use Rattle.recording_limits.specs.declared.limits.TheConstants.{LAST_CHECKPOINT,
 abbrev pub timer_fits : ℕ → ℕ → Bool
 timer_fits rate phase = nat_lt rate (2 ^ 32) && nat_lt phase (2 ^ 32) && is_phase rate phase
 
--- words, a program counter, four flags, and the timer's rate and phase
+-- words, a program counter, four flags, the timer's rate and phase, and an answer of the disk
 abbrev pub start_fits : Start → Bool
 start_fits start =
     list_all (λ register. nat_lt register (2 ^ 32)) start.registers
@@ -23,6 +23,7 @@ start_fits start =
     && nat_lt start.pc COUNTER_END
     && nat_lt start.flags 16
     && timer_fits start.rate start.phase
+    && nat_lt start.disk (2 ^ 32)
 
 -- one of the 1,024 page slots, and digits of at most 1,024 bytes
 abbrev pub page_fits : PageText → Bool
@@ -30,7 +31,11 @@ page_fits page = nat_lt page.at 1024 && nat_le (length page.hex) 2048
 
 -- a count that a recording may have, and a value that the kind takes
 abbrev pub input_fits : InputNumbers → Bool
-input_fits input = nat_le input.count MAX_COUNT && is_input input.kind input.value
+input_fits input = nat_le input.count MAX_COUNT && is_input_with_disk input.kind input.value
+
+-- the most inputs of a session: as many as a file has that has a disk, or none
+abbrev pub max_inputs : ℕ → ℕ
+max_inputs version = if version == 3 then MAX_EVENTS_WITH_DISK else MAX_EVENTS
 
 -- a count that a recording may have after checkpoint 0
 abbrev pub count_fits : ℕ → Bool
@@ -41,7 +46,7 @@ unfoldable pub in_range : Draft → Bool
 in_range draft =
     start_fits draft.start
     && (nat_le (length draft.pages) 1024 && list_all page_fits draft.pages)
-    && (nat_le (length draft.inputs) MAX_EVENTS && list_all input_fits draft.inputs)
+    && (nat_le (length draft.inputs) (max_inputs draft.version) && list_all input_fits draft.inputs)
     && (nat_le (length draft.checkpoints) LAST_CHECKPOINT && list_all count_fits draft.checkpoints)
 
 -- ---- order

@@ -27,15 +27,15 @@ numbered pages (suc n) = slice_set (numbered pages n) (slice_index (slots_in pag
 unfoldable pub first_stored : List PlacedWords → Stored
 first_stored pages = record { pool = map (λ page. page.words) pages; table = numbered pages (length pages) }
 
--- devices that are all zeros, with no keys, except the timer's rate and phase
-abbrev pub first_devices : ℕ → ℕ → DeviceState
-first_devices rate phase = record zero_devices { rate = rate; phase = phase }
+-- devices that are all zeros, with no keys, except the timer's rate and phase, and the disk's last answer
+abbrev pub first_devices : ℕ → ℕ → ℕ → DeviceState
+first_devices rate phase disk = record zero_devices { rate = rate; phase = phase; disk = disk }
 
 -- the initial state of the session
 unfoldable pub first_state : SessionParts → State
 first_state s = record {
   cpu = s.cpu;
-  devices = first_devices s.rate s.phase;
+  devices = first_devices s.rate s.phase s.disk;
   words = table_words (first_stored s.pages).pool (first_stored s.pages).table;
 }
 

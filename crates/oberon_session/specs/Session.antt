@@ -6,7 +6,7 @@ use Rattle.risc_model.specs.declared.event.Event.{Event}
 use Rattle.risc_model.specs.MachineState.{CpuState}
 use Rattle.oberon_session.specs.Digits.{all_placed_of}
 use Rattle.oberon_session.specs.Draft.{Draft, InputNumbers, Start}
-use Rattle.oberon_session.specs.Rules.{draft_in, first_fault_of}
+use Rattle.oberon_session.specs.Rules.{draft_in, first_fault_up_to}
 use Rattle.oberon_session.specs.SessionParts.{SessionParts}
 use Rattle.oberon_session.specs.declared.fault.SessionFault.{SessionFault}
 use Rattle.oberon_session.specs.declared.fault.SessionFault.TheVariants as fault
@@ -27,6 +27,7 @@ pub record Describes (draft : Draft) (session : SessionParts) : Type 0 where
   pub cpu : session.cpu ≡ cpu_of draft.start
   pub rate : session.rate ≡ draft.start.rate
   pub phase : session.phase ≡ draft.start.phase
+  pub disk : session.disk ≡ draft.start.disk
   pub pages : all_placed_of draft.pages ≡ Some session.pages
   pub inputs : map numbers_of_event session.inputs ≡ draft.inputs
   pub counts : session.counts ≡ draft.checkpoints
@@ -37,13 +38,29 @@ pub record Describes (draft : Draft) (session : SessionParts) : Type 0 where
 abbrev pub Fits : List ℕ → Type 0
 Fits bytes = length bytes ≤ LONGEST_SESSION
 
--- the bytes break no rule, and encode this session
-abbrev pub IsSession : List ℕ → SessionParts → Type 0
-IsSession bytes session =
-    (first_fault_of bytes ≡ None) × (draft : Draft) × (draft_in bytes ≡ Some draft) × Describes draft session
+-- the bytes break no rule of the versions up to the newest one, and encode this session
+abbrev pub IsSessionUpTo : ℕ → List ℕ → SessionParts → Type 0
+IsSessionUpTo newest bytes session =
+    (first_fault_up_to newest bytes ≡ None) × (draft : Draft) × (draft_in newest bytes ≡ Some draft) × Describes draft session
 
--- this is the fault of the first rule that the bytes break. Running out of memory is not a fault of a file, and happens only if
--- there are not too many bytes
+-- this is the fault of the first of these rules that the bytes break. Running out of memory is not a fault of a file, and happens
+-- only if there are not too many bytes
+abbrev pub BreaksUpTo : ℕ → List ℕ → SessionFault → Type 0
+BreaksUpTo newest bytes fault.Memory = Fits bytes
+BreaksUpTo newest bytes own = first_fault_up_to newest bytes ≡ Some own
+
+-- ---- of a machine without a disk: versions 1 and 2
+
+abbrev pub IsSession : List ℕ → SessionParts → Type 0
+IsSession = IsSessionUpTo 2
+
 abbrev pub Breaks : List ℕ → SessionFault → Type 0
-Breaks bytes fault.Memory = Fits bytes
-Breaks bytes own = first_fault_of bytes ≡ Some own
+Breaks = BreaksUpTo 2
+
+-- ---- of a machine with a disk: version 3, too
+
+abbrev pub IsSessionWithDisk : List ℕ → SessionParts → Type 0
+IsSessionWithDisk = IsSessionUpTo 3
+
+abbrev pub BreaksWithDisk : List ℕ → SessionFault → Type 0
+BreaksWithDisk = BreaksUpTo 3

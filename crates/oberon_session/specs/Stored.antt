@@ -1,13 +1,28 @@
 -- How memories are stored as pages of a pool and tables of page ids (this project's own choice).
-use Rattle.std.specs.Prelude.{ℕ, ◌+◌, ◌==◌, Bool, List, [], ◌∷◌, ◌++◌, filter, length, map, not, slice_set, if◌then◌else◌}
+use Rattle.std.specs.Prelude.{ℕ, ◌≡◌, ◌+◌, ◌==◌, Bool, List, [], ◌∷◌, ◌++◌, filter, length, map, not, slice_set, if◌then◌else◌}
 use Rattle.std.specs.List.{fold, list_all}
+use Rattle.risc_pages.specs.declared.page.Page.{Page}
 use Rattle.risc_pages.specs.Delta.{changed_below}
 use Rattle.risc_pages.specs.Pages.{page_at}
+use Rattle.oberon_session.specs.declared.storing.StoredPages.{StoredPages}
 
 -- the pages that were stored so far, and the table of the memory that was stored last
 pub record Stored : Type 0 where
   pub pool : List (List ℕ)
   pub table : List ℕ
+
+-- a pool and a table, as Rust has them
+abbrev pub stored_view : StoredPages → Stored
+stored_view l = record { pool = l.pool; table = l.table.numbers }
+
+-- a changed page and its slot, as Rust has them
+abbrev pub changed_page_view : ℕ × Page → ℕ × List ℕ
+changed_page_view c = (c.0, c.1.words)
+
+-- a pool that has its pages still, and maybe more after them
+pub record IsGrown (old new : List (List ℕ)) : Type 0 where
+  pub extra : List (List ℕ)
+  pub grown : new ≡ old ++ extra
 
 -- whether these words are all zeros
 unfoldable pub is_blank : List ℕ → Bool

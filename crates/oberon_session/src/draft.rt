@@ -26,12 +26,15 @@ pub struct StartDraft {
     pub flags: u64,
     pub rate: u64,
     pub phase: u64,
+    pub disk: u64,
     pub ghost sixteen: { length registers.items ≡ 16 },
 }
 
 /// A session whose shape is right.
 #[derive(Drop)]
 pub struct Draft<'a> {
+    /// 1, 2 or 3.
+    pub version: u64,
     pub start: StartDraft,
     pub pages: Vec<PageDraft<'a>>,
     pub inputs: Vec<InputDraft>,

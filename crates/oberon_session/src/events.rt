@@ -5,32 +5,43 @@ ghost use Rattle.std.specs.List.{All};
 ghost use Rattle.risc_model.specs.DiskInputs.{IsOfDisk};
 ghost use Rattle.risc_model.specs.InputOrder.{AreOrdered};
 ghost use Rattle.oberon_session.specs.inner.Drafts.{input_view};
-ghost use Rattle.oberon_session.specs.Ranges.{input_counts};
+ghost use Rattle.oberon_session.specs.Ranges.{input_counts, max_inputs};
 ghost use Rattle.oberon_session.specs.Session.{numbers_of_event};
 ghost use Rattle.oberon_session.specs.inner.Tested.{BreaksInputs, BreaksRanges, InputFits, InputsFit, IsEventOf, NeverFalls};
 
 use crate::SessionFault;
 use crate::draft::InputDraft;
-use oberon_format::{MAX_COUNT, MAX_EVENTS};
+use oberon_format::{MAX_COUNT, MAX_EVENTS, MAX_EVENTS_WITH_DISK};
 use risc_devices::Input;
 use risc_devices::kinds::DISK;
 use risc_model::{Event, Inputs};
 use std::alloc::Global;
 
-/// Returns the inputs of a session, or the first rule on ranges and order that they break.
-pub fn inputs_of(alloc: Global, drafts: &[InputDraft]) -> Result<Inputs, SessionFault>
+/// Returns the inputs of a session of a version, or the first rule on ranges and order that they break.
+pub fn inputs_of(alloc: Global, version: u64, drafts: &[InputDraft]) -> Result<Inputs, SessionFault>
     ensures numbers { IfOk result (λ inputs. map numbers_of_event inputs ≡ map input_view drafts.now) }
-    ensures fit { IfOk result (λ _. InputsFit (map input_view drafts.now)) }
+    ensures fit { IfOk result (λ _. InputsFit version (map input_view drafts.now)) }
     ensures ordered { IfOk result AreOrdered }
     ensures order { IfOk result (λ _. NeverFalls (input_counts (map input_view drafts.now))) }
-    ensures err { IfErr result (BreaksInputs (map input_view drafts.now)) }
+    ensures err { IfErr result (BreaksInputs version (map input_view drafts.now)) }
 {
-    if drafts.len() > MAX_EVENTS as usize {
+    if drafts.len() > max_inputs(version) as usize {
         return Err(SessionFault::Range);
     }
     match Inputs::new(events(alloc, drafts)?) {
         Ok(inputs) => Ok(inputs),
         Err(_) => Err(SessionFault::Order),
+    }
+}
+
+/// Returns the most inputs that a session of a version may have.
+fn max_inputs(version: u64) -> u32
+    ensures { result ≡ max_inputs version }
+{
+    if version == 3 {
+        MAX_EVENTS_WITH_DISK
+    } else {
+        MAX_EVENTS
     }
 }
 
@@ -67,7 +78,7 @@ fn event(draft: &InputDraft) -> Option<Event>
     let Ok(value) = u32::try_from(draft.value) else {
         return None;
     };
-    match Input::new(draft.kind, value) {
+    match Input::new_with_disk(draft.kind, value) {
         Ok(input) => Some(Event {
             count: draft.count,
             input,

@@ -3,8 +3,7 @@
 use std::alloc::{AllocError, AllocFailed};
 use thiserror::Error;
 
-/// Why a recording is not extended: the first of these rules that is broken, in this order; or memory ran out. A recording does not
-/// begin for `Disk` or `Memory`.
+/// Why a recording is not extended: the first of these rules that is broken, in this order; or memory ran out.
 ///
 /// The rules and their limits are this project's own choice.
 #[derive(Clone, Copy, Debug, PartialEq, Eq, Error)]
@@ -16,7 +15,7 @@ pub enum ExtendFault {
     /// inputs fall.
     #[error("the checkpoint or an input does not come next")]
     Order,
-    /// More than 1,000,000 inputs.
+    /// More than 4,000,000 inputs; or more than 1,000,000, and neither the recording nor what is new has an answer of a disk.
     #[error("the recording has too many inputs")]
     Inputs,
     /// More than 4,097 checkpoints.
@@ -25,9 +24,6 @@ pub enum ExtendFault {
     /// More than 1,048,576 bytes sent in all.
     #[error("the recording sends too much")]
     Output,
-    /// An input or the devices have an answer of a disk, for which a recording has no field.
-    #[error("the recording has no disk")]
-    Disk,
     /// More than 65,536 pages.
     #[error("the recording has too many pages")]
     Pages,

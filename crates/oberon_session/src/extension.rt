@@ -4,16 +4,18 @@
 ghost use Rattle.std.specs.Prelude.{◌≡◌, ◌+◌, ◌<◌, ◌≤◌, ◌^◌, ◌++◌, [], All, IfErr, IfOk, OnOk, length, map};
 ghost use Rattle.risc_core.specs.declared.branch.TheConstants.{COUNTER_END};
 ghost use Rattle.risc_devices.specs.DeviceState.{IsDeviceState};
+ghost use Rattle.risc_devices.specs.declared.disk.TheConstants.{UNANSWERED};
 ghost use Rattle.risc_model.specs.InputOrder.{AreOrdered};
 ghost use Rattle.risc_model.specs.MachineState.{cpu_state};
 ghost use Rattle.risc_pages.specs.declared.sizes.TheConstants.{MEMORY_WORDS};
 ghost use Rattle.risc_pages.specs.Pages.{ArePages};
 ghost use Rattle.risc_pages.specs.Tables.{IsNamed};
 ghost use Rattle.oberon_format.specs.CheckpointParts.{checkpoint_parts};
-ghost use Rattle.oberon_format.specs.Recording.{IsLawful};
-ghost use Rattle.oberon_session.specs.Extended.{HasRoom, IsBeginFault, IsBegun, IsExtendFault, IsExtended, outcome_of};
+ghost use Rattle.oberon_format.specs.Recording.{IsLawfulWithDisk};
+ghost use Rattle.oberon_format.specs.Text.{IsPlain};
+ghost use Rattle.oberon_session.specs.Extended.{HasNoAnswer, HasRoom, IsBegun, IsExtendFault, IsExtended, outcome_of};
 ghost use Rattle.oberon_session.specs.inner.Growing.{HasGrown, NeedsPages, claim_checkpoint, stored_on, last_stored};
-ghost use Rattle.oberon_session.specs.inner.Progress.{stored_view};
+ghost use Rattle.oberon_session.specs.Stored.{stored_view};
 
 use crate::claim::Claim;
 use crate::extend_fault::ExtendFault;
@@ -21,35 +23,28 @@ use crate::following::next_fault;
 use crate::recorder::recording_of;
 use crate::storing::{StoredPages, store_words};
 use oberon_format::{Checkpoint, MAX_PAGES, Recording, bytes_fit};
-use risc_devices::{Devices, UNANSWERED};
+use risc_devices::Devices;
 use risc_model::{Cpu, Event, Inputs};
 use risc_pages::{Pool, Table};
 use std::alloc::{AllocError, Global};
 
-/// Returns the recording that begins with a state: no inputs, and checkpoint 0 alone.
-///
-/// It fails only if the devices have an answer of a disk, for which a recording has no field (`Disk`), or if memory runs out.
+/// Returns the recording that begins with a state: no inputs, and checkpoint 0 alone. It fails only if memory runs out.
 pub fn begin_recording(
     alloc: Global,
     cpu: Cpu,
     devices: Devices,
     words: &[u32],
-) -> Result<Recording, ExtendFault>
+) -> Result<Recording, AllocError>
     requires counter { cpu.pc < COUNTER_END }
     requires stop { cpu.stop ≤ 4 }
     requires whole { length words.now ≡ MEMORY_WORDS }
     // It begins with the state.
     ensures begun { IfOk result (IsBegun (record { cpu = cpu_state cpu; devices = devices; words = words.now })) }
     // It is within all limits.
-    ensures lawful { IfOk result IsLawful }
-    // It begins only if no disk has answered.
-    ensures unanswered { OnOk result (devices.disk ≡ UNANSWERED) }
-    // On an error, it is that a disk has answered, or that memory ran out.
-    ensures refused { IfErr result (IsBeginFault devices.disk) }
+    ensures lawful { IfOk result IsLawfulWithDisk }
+    // If no disk has answered, it is one of a machine without a disk.
+    ensures plain { devices.disk ≡ UNANSWERED → IfOk result IsPlain }
 {
-    if devices.disk() != UNANSWERED {
-        return Err(ExtendFault::Disk);
-    }
     let mut stored = StoredPages {
         pool: Pool::new(alloc),
         table: Table::zeros(),
@@ -87,7 +82,9 @@ pub fn extend_recording(
     // The recording had taken its inputs, and had room for what comes next.
     ensures room { OnOk result (HasRoom recording inputs.now claim.now.count (outcome_of claim.now)) }
     // The result is within all limits.
-    ensures lawful { IfOk result IsLawful }
+    ensures lawful { IfOk result IsLawfulWithDisk }
+    // A plain recording stays plain if no new input and no claim is an answer of a disk.
+    ensures plain { IsPlain recording → HasNoAnswer inputs.now (outcome_of claim.now) → IfOk result IsPlain }
     // On an error, it is the first rule that is broken.
     ensures refused { IfErr result (IsExtendFault recording inputs.now claim.now.count (outcome_of claim.now)) }
 {
@@ -122,7 +119,7 @@ fn next_checkpoints(
     claim: &Claim<'_>,
 ) -> Result<(StoredPages, Vec<Checkpoint>), ExtendFault>
     requires { length claim.now.words.now ≡ MEMORY_WORDS }
-    ensures lawful { IsLawful recording }
+    ensures lawful { IsLawfulWithDisk recording }
     ensures grown { IfOk result (λ grown. HasGrown recording claim.now (stored_view grown.0) (map checkpoint_parts grown.1.items)) }
     ensures refused { IfErr result (NeedsPages (last_stored recording) claim.now.words.now) }
 {

@@ -2,14 +2,17 @@
 
 ghost use Rattle.std.specs.Prelude.{◌≡◌, ◌≢◌, ◌≤◌, ◌<◌, ◌↔◌, All, IfNone, IfSome, IsTrue};
 ghost use Rattle.risc_model.specs.InputOrder.{AreOrdered};
-ghost use Rattle.oberon_format.specs.Recording.{IsLawful};
-ghost use Rattle.oberon_session.specs.Extended.{HasRoom, HasTakenAll, IsExtendFault, IsNext, last_count, outcome_of};
+ghost use Rattle.oberon_format.specs.Recording.{IsLawfulWithDisk, IsUnanswered};
+ghost use Rattle.oberon_format.specs.Text.{IsPlain};
+ghost use Rattle.oberon_session.specs.Extended.{FitInputs, HasNoAnswer, HasRoom, HasTakenAll, IsExtendFault, IsNext, last_count, outcome_of};
 ghost use Rattle.oberon_session.specs.declared.extend_fault.ExtendFault.{ExtendFault};
 
 use crate::claim::Claim;
 use crate::events::are_unanswered;
 use crate::extend_fault::ExtendFault;
-use oberon_format::{LAST_CHECKPOINT, MAX_COUNT, MAX_EVENTS, MAX_OUTPUT, Recording};
+use oberon_format::{
+    LAST_CHECKPOINT, MAX_COUNT, MAX_EVENTS, MAX_EVENTS_WITH_DISK, MAX_OUTPUT, Recording,
+};
 use risc_devices::UNANSWERED;
 use risc_model::Event;
 
@@ -29,7 +32,7 @@ pub fn next_fault(recording: &Recording, inputs: &[Event], claim: &Claim<'_>) ->
     limit_fault(recording, inputs, claim)
 }
 
-/// Returns the first limit that a recording would exceed with a claim and inputs that come next, or `Disk`.
+/// Returns the first limit that a recording would exceed with a claim and inputs that come next.
 fn limit_fault(recording: &Recording, inputs: &[Event], claim: &Claim<'_>) -> Option<ExtendFault>
     requires taken { HasTakenAll recording.now }
     requires next { IsNext recording.now inputs.now claim.now.count }
@@ -37,8 +40,7 @@ fn limit_fault(recording: &Recording, inputs: &[Event], claim: &Claim<'_>) -> Op
     ensures tested { IfSome result (λ fault. (fault ≢ ExtendFault.Pages) × (fault ≢ ExtendFault.Memory)) }
     ensures room { IfNone result (HasRoom recording.now inputs.now claim.now.count (outcome_of claim.now)) }
 {
-    let before = recording.inputs().events();
-    if inputs.len() > MAX_EVENTS as usize - before.len() {
+    if !inputs_fit(recording, inputs, claim) {
         return Some(ExtendFault::Inputs);
     }
     if recording.count() > LAST_CHECKPOINT {
@@ -47,15 +49,48 @@ fn limit_fault(recording: &Recording, inputs: &[Event], claim: &Claim<'_>) -> Op
     if claim.sent.len() > MAX_OUTPUT as usize - recording.output_len() {
         return Some(ExtendFault::Output);
     }
-    if claim.devices.disk() != UNANSWERED || !are_unanswered(inputs) {
-        return Some(ExtendFault::Disk);
-    }
     None
+}
+
+/// Reports whether a recording with these new inputs and this claim has not too many inputs. Whether a disk has answered is tested only
+/// of more inputs than a file without a disk may have.
+fn inputs_fit(recording: &Recording, inputs: &[Event], claim: &Claim<'_>) -> bool
+    ensures { IsTrue result ↔ FitInputs recording.now inputs.now (outcome_of claim.now) }
+{
+    let before = recording.inputs().events();
+    if inputs.len() > MAX_EVENTS_WITH_DISK as usize - before.len() {
+        return false;
+    }
+    before.len() + inputs.len() <= MAX_EVENTS as usize || !stays_plain(recording, inputs, claim)
+}
+
+/// Reports whether a recording is plain, and neither these inputs nor this claim have an answer of a disk.
+fn stays_plain(recording: &Recording, inputs: &[Event], claim: &Claim<'_>) -> bool
+    ensures { IsTrue result ↔ (IsPlain recording.now × HasNoAnswer inputs.now (outcome_of claim.now)) }
+{
+    let before = recording.inputs().events();
+    before.len() <= MAX_EVENTS as usize
+        && claim.devices.disk() == UNANSWERED
+        && are_unanswered(inputs)
+        && are_unanswered(before)
+        && claims_no_answer(recording)
+}
+
+/// Reports whether no checkpoint of a recording claims an answer of a disk.
+fn claims_no_answer(recording: &Recording) -> bool
+    ensures { IsTrue result ↔ All IsUnanswered recording.now.checkpoints }
+{
+    for k in 0..recording.count() {
+        if recording.checkpoint(k).devices.disk() != UNANSWERED {
+            return false;
+        }
+    }
+    true
 }
 
 fn last_count(recording: &Recording) -> u64
     ensures count { result ≡ last_count recording.now }
-    ensures lawful { IsLawful recording.now }
+    ensures lawful { IsLawfulWithDisk recording.now }
 {
     recording.checkpoint(recording.count() - 1).count
 }

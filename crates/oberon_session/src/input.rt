@@ -102,6 +102,7 @@ fn kind_number(name: &str) -> Option<u8>
         "mouse" => Some(3),
         "key" => Some(4),
         "serial" => Some(5),
+        "disk" => Some(6),
         _ => None,
     }
 }

@@ -1,10 +1,15 @@
 //! The laws of sessions, of stored memories and of the recorder, each the contract of a function that does nothing.
 
-ghost use Rattle.oberon_session.specs.Laws.{FirstTableLaw, StoredLaw, OneAnswer, HasPiece};
+ghost use Rattle.oberon_session.specs.Laws.{FirstTableLaw, HasPiece, OneAnswer, PlainLaw, StoredLaw};
 
 /// Any bytes have exactly one answer: their session, or the first rule that they break.
 pub fn answer_law()
     ensures { OneAnswer }
+{}
+
+/// Bytes that encode a session of version 1 or 2 are read as the same session with a disk, and it is one of a machine without one.
+pub fn plain_law()
+    ensures { PlainLaw }
 {}
 
 /// In a session's first table the slot of page i has page id i + 1, and a slot without a page has page id 0.

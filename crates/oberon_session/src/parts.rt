@@ -3,6 +3,7 @@
 ghost use Rattle.std.specs.Prelude.{◌≡◌, ◌<◌, ◌↔◌, IfNone, IfSome, IsTrue};
 ghost use Rattle.std.specs.List.Sorted.{IsStrictlyIncreasing};
 ghost use Rattle.risc_core.specs.declared.branch.TheConstants.{COUNTER_END};
+ghost use Rattle.risc_devices.specs.declared.disk.TheConstants.{UNANSWERED};
 ghost use Rattle.oberon_session.specs.Parts.{BreaksParts, session_of_parts};
 ghost use Rattle.oberon_session.specs.SessionParts.{IsLawful};
 ghost use Rattle.oberon_session.specs.inner.Tested.{PartsFit, PlacedFit, RisesBy};
@@ -24,8 +25,8 @@ pub fn parts_fault(
     inputs: &Inputs,
     counts: &[u64],
 ) -> Option<SessionFault>
-    ensures some { IfSome result (BreaksParts (session_of_parts cpu.now rate phase pages.now inputs.now counts.now)) }
-    ensures none { IfNone result (IsLawful (session_of_parts cpu.now rate phase pages.now inputs.now counts.now)) }
+    ensures some { IfSome result (BreaksParts (session_of_parts cpu.now rate phase UNANSWERED pages.now inputs.now counts.now)) }
+    ensures none { IfNone result (IsLawful (session_of_parts cpu.now rate phase UNANSWERED pages.now inputs.now counts.now)) }
 {
     if !are_in_range(cpu, rate, phase, pages, inputs, counts) {
         return Some(SessionFault::Range);

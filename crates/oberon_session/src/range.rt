@@ -32,7 +32,7 @@ pub fn is_rising(draft: &Draft<'_>) -> bool
     slots_rise(&draft.pages) && rises(&draft.checkpoints)
 }
 
-/// Reports whether registers, H, program counter, flags, and the timer's rate and phase are in their ranges.
+/// Reports whether registers, H, program counter, flags, the timer's rate and phase, and the disk's answer are in their ranges.
 fn start_fits(start: &StartDraft) -> bool
     ensures { IsTrue result ↔ StartFits (start_view start.now) }
 {
@@ -41,6 +41,7 @@ fn start_fits(start: &StartDraft) -> bool
         && start.pc < COUNTER_END as u64
         && start.flags < 16
         && timer_fits(start.rate, start.phase)
+        && start.disk < 1 << 32
 }
 
 pub fn timer_fits(rate: u64, phase: u64) -> bool

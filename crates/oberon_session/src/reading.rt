@@ -3,7 +3,8 @@
 ghost use Rattle.std.specs.Prelude.{◌≡◌, ◌<◌, IfOk, IfErr};
 ghost use Rattle.risc_model.specs.MachineState.{cpu_state};
 ghost use Rattle.oberon_session.specs.inner.Drafts.{draft_view, start_view};
-ghost use Rattle.oberon_session.specs.Session.{Breaks, IsSession, Describes, cpu_of};
+ghost use Rattle.oberon_session.specs.Session.{Breaks, BreaksUpTo, BreaksWithDisk, Describes, IsSession, IsSessionUpTo, IsSessionWithDisk, cpu_of};
+ghost use Rattle.oberon_session.specs.SessionParts.{IsPlain};
 ghost use Rattle.oberon_session.specs.inner.Tested.{BreaksDraft, BreaksOf, InOrder, InRange, IsSessionOf, IsTested, StartFits};
 
 use crate::SessionFault;
@@ -18,34 +19,56 @@ use recording_limits::LONGEST_SESSION;
 use risc_model::{Cpu, Flags, Inputs};
 use std::alloc::Global;
 
-/// Returns the session that the bytes encode, or the first rule that they break.
+/// Returns the session that the bytes encode, of a machine without a disk, or the first rule that they break.
 ///
 /// The rules, in the order in which they are tested: there are at most `LONGEST_SESSION` bytes (`Range`), they are JSON (`Json`),
-/// the JSON has the shape of a session (`Shape`), and its numbers are in their ranges (`Range`); slots of pages and counts of
-/// checkpoints rise, and counts of inputs don't fall (`Order`); and pages are pairs of hexadecimal digits (`Hex`). If memory runs
-/// out, the answer is `Memory` instead, unless there are too many bytes.
+/// the JSON has the shape of a session of version 1 or 2 (`Shape`), and its numbers are in their ranges (`Range`); slots of pages and
+/// counts of checkpoints rise, and counts of inputs don't fall (`Order`); and pages are pairs of hexadecimal digits (`Hex`). If memory
+/// runs out, the answer is `Memory` instead, unless there are too many bytes.
 ///
 /// No tree of JSON values is built. Beside the bytes it takes a buffer as long as they are, and the numbers of the session.
 pub fn read_session(alloc: Global, bytes: &[u8]) -> Result<Session, SessionFault>
     ensures ok { IfOk result (IsSession bytes.now) }
     ensures err { IfErr result (Breaks bytes.now) }
+    // The session is one of a machine without a disk.
+    ensures plain { IfOk result IsPlain }
+{
+    read_up_to(alloc, 2, bytes)
+}
+
+/// Returns the session that the bytes encode, or the first rule that they break, as `read_session` does. Its version may also be 3,
+/// that of a machine with a disk.
+pub fn read_session_with_disk(alloc: Global, bytes: &[u8]) -> Result<Session, SessionFault>
+    ensures ok { IfOk result (IsSessionWithDisk bytes.now) }
+    ensures err { IfErr result (BreaksWithDisk bytes.now) }
+{
+    read_up_to(alloc, 3, bytes)
+}
+
+/// Returns the session that the bytes encode in one of the versions up to the newest, or the first rule that they break.
+fn read_up_to(alloc: Global, newest: u64, bytes: &[u8]) -> Result<Session, SessionFault>
+    ensures ok { IfOk result (IsSessionUpTo newest bytes.now) }
+    ensures err { IfErr result (BreaksUpTo newest bytes.now) }
 {
     if bytes.len() > LONGEST_SESSION {
         return Err(SessionFault::Range);
     }
     match std::str::from_utf8(bytes) {
-        Ok(text) => session_in(alloc, text),
+        Ok(text) => session_in(alloc, newest, text),
         Err(_) => Err(SessionFault::Json),
     }
 }
 
-/// Returns the session that a text encodes, or the first rule that the text breaks.
-fn session_in(alloc: Global, text: &str) -> Result<Session, SessionFault>
-    ensures ok { IfOk result (IsSessionOf text.now) }
-    ensures err { IfErr result (BreaksOf text.now) }
+/// Returns the session that a text encodes in one of the versions up to the newest, or the first rule that the text breaks.
+fn session_in(alloc: Global, newest: u64, text: &str) -> Result<Session, SessionFault>
+    ensures ok { IfOk result (IsSessionOf newest text.now) }
+    ensures err { IfErr result (BreaksOf newest text.now) }
 {
     let mut scratch = Scratch::new(alloc);
     let draft = read_draft(alloc, text, &mut scratch)?;
+    if draft.version > newest {
+        return Err(SessionFault::Shape);
+    }
     session_of(alloc, draft)
 }
 
@@ -62,6 +85,7 @@ fn session_of(alloc: Global, draft: Draft<'_>) -> Result<Session, SessionFault>
         cpu: cpu_of(&draft.start),
         rate: draft.start.rate as u32,
         phase: draft.start.phase as u32,
+        disk: draft.start.disk as u32,
         pages,
         inputs,
         counts: draft.checkpoints,
@@ -76,7 +100,7 @@ fn test_draft(alloc: Global, draft: &Draft<'_>) -> Result<Inputs, SessionFault>
     if !is_in_range(draft) {
         return Err(SessionFault::Range);
     }
-    let inputs = inputs_of(alloc, &draft.inputs)?;
+    let inputs = inputs_of(alloc, draft.version, &draft.inputs)?;
     if !is_rising(draft) {
         return Err(SessionFault::Order);
     }

@@ -3,8 +3,10 @@
 ghost use Rattle.std.specs.Prelude.{◌≡◌, ◌≢◌, ◌+◌, ◌<◌, ℕ, All, length, None, Some, IfOk, IfErr, OnOk};
 ghost use Rattle.risc_devices.specs.DeviceState.{IsPhase};
 ghost use Rattle.oberon_format.specs.Defined.{IsTrueAt};
-ghost use Rattle.oberon_format.specs.Recording.{parts_of, IsLawful};
+ghost use Rattle.oberon_format.specs.Recording.{parts_of, IsLawfulWithDisk};
+ghost use Rattle.oberon_format.specs.Text.{IsPlain};
 ghost use Rattle.oberon_session.specs.Recorded.{first_devices, record_fault_of, recording_of};
+ghost use Rattle.oberon_session.specs.SessionParts.{IsPlain as IsPlainSession};
 ghost use Rattle.oberon_session.specs.inner.Progress.{HasRecorded};
 
 use crate::record_fault::RecordFault;
@@ -38,6 +40,8 @@ pub fn make_recording(alloc: Global, session: &Session) -> Result<Recording, Rec
     ensures refused { IfErr result (λ fault. fault ≢ RecordFault.Memory → record_fault_of session.now ≡ Some fault) }
     // All its checkpoints are true.
     ensures truth { IfOk result (λ recording. (k : ℕ) → k < length recording.checkpoints → IsTrueAt recording k) }
+    // A session of a machine without a disk has a recording of one.
+    ensures plain { IsPlainSession session.now → IfOk result IsPlain }
 {
     let mut recorder = begin(alloc, session)?;
     for k in 0..session.counts().len() {
@@ -55,7 +59,7 @@ fn begin(alloc: Global, session: &Session) -> Result<Recorder, RecordFault>
     let first = Checkpoint {
         count: 0,
         cpu: session.cpu(),
-        devices: first_devices(session.rate(), session.phase()),
+        devices: first_devices(session.rate(), session.phase(), session.disk()),
         sent: Vec::new(alloc),
         table: stored.table.copy(),
     };
@@ -68,13 +72,13 @@ fn begin(alloc: Global, session: &Session) -> Result<Recorder, RecordFault>
     })
 }
 
-/// Returns devices that are all zeros, except the timer's rate and phase.
-fn first_devices(rate: u32, phase: u32) -> Devices
+/// Returns devices that are all zeros, except the timer's rate and phase, and the disk's last answer.
+fn first_devices(rate: u32, phase: u32, disk: u32) -> Devices
     requires { IsPhase rate phase }
-    ensures { result ≡ first_devices rate phase }
+    ensures { result ≡ first_devices rate phase disk }
 {
     match Devices::with_timer(0, rate, phase) {
-        Ok(devices) => devices,
+        Ok(devices) => devices.with_disk(disk),
         Err(_) => unreachable!(),
     }
 }
@@ -117,7 +121,7 @@ fn record_next(
 
 /// Returns the recording of all that was recorded. It copies the inputs, which the session keeps.
 fn finish(alloc: Global, inputs: &Inputs, recorder: Recorder) -> Result<Recording, RecordFault>
-    requires { IsLawful (parts_of recorder.stored.pool inputs.now recorder.checkpoints.items) }
+    requires { IsLawfulWithDisk (parts_of recorder.stored.pool inputs.now recorder.checkpoints.items) }
     ensures recording { IfOk result (λ recording. recording ≡ parts_of recorder.stored.pool inputs.now recorder.checkpoints.items) }
     ensures memory { IfErr result (λ fault. fault ≡ RecordFault.Memory) }
 {
@@ -126,11 +130,11 @@ fn finish(alloc: Global, inputs: &Inputs, recorder: Recorder) -> Result<Recordin
 }
 
 pub fn recording_of(pool: Pool, inputs: Inputs, checkpoints: Vec<Checkpoint>) -> Recording
-    requires { IsLawful (parts_of pool inputs checkpoints.items) }
+    requires { IsLawfulWithDisk (parts_of pool inputs checkpoints.items) }
     ensures parts { result ≡ parts_of pool inputs checkpoints.items }
-    ensures lawful { IsLawful result }
+    ensures lawful { IsLawfulWithDisk result }
 {
-    match Recording::from_parts(pool, inputs, checkpoints) {
+    match Recording::from_parts_with_disk(pool, inputs, checkpoints) {
         Ok(recording) => recording,
         Err(_) => unreachable!(),
     }

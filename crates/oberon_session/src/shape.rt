@@ -1,10 +1,10 @@
 //! Reads a draft of a session from JSON of the right shape. Ranges and order are tested in `range` and `events`.
 
-ghost use Rattle.std.specs.Prelude.{◌≡◌, option_map};
+ghost use Rattle.std.specs.Prelude.{◌≡◌, ◌↔◌, All, IsTrue, map, option_map};
 ghost use Rattle.serde_json.specs.Data.{no_members};
 ghost use Rattle.serde_json.specs.Read.{read};
-ghost use Rattle.oberon_session.specs.Draft.{draft_of, version_of};
-ghost use Rattle.oberon_session.specs.inner.Drafts.{draft_view};
+ghost use Rattle.oberon_session.specs.Draft.{draft_of, known_inputs, version_of};
+ghost use Rattle.oberon_session.specs.inner.Drafts.{draft_view, input_view};
 ghost use Rattle.oberon_session.specs.inner.Found.{draft_found, is_format, session_found, with_session_member};
 ghost use Rattle.oberon_session.specs.inner.FoundViews.{session_found_view};
 ghost use Rattle.oberon_session.specs.inner.Taken.{GivesDraft, Takes, all_members, one_value};
@@ -18,6 +18,7 @@ use crate::page::pages;
 use crate::start::{StartMembers, start};
 use crate::value::{next_key, number, pass, pass_other, text};
 use json::{Reader, Scratch};
+use risc_devices::kinds::DISK;
 use std::alloc::Global;
 
 /// How deep arrays and objects may nest.
@@ -158,10 +159,13 @@ impl<'a> SessionMembers<'a> {
         }
         let version = self.version?;
         let start = self.start?.draft(version)?;
+        let pages = self.pages?;
+        let inputs = known_inputs(version, self.inputs?)?;
         Some(Draft {
+            version,
             start,
-            pages: self.pages?,
-            inputs: self.inputs?,
+            pages,
+            inputs,
             checkpoints: self.checkpoints?,
         })
     }
@@ -177,12 +181,33 @@ fn format(reader: &mut Reader<'_>, depth: usize) -> Result<bool, SessionFault>
     }
 }
 
-/// Takes a value, and returns it if it is a version, 1 or 2.
+/// Takes a value, and returns it if it is a version: 1, 2 or 3.
 fn version(reader: &mut Reader<'_>, depth: usize) -> Result<Option<u64>, SessionFault>
     ensures { Takes (one_value depth reader.old) reader.new (λ json found. found ≡ version_of json) result }
 {
     match number(reader, depth)? {
-        Some(version) if version == 1 || version == 2 => Ok(Some(version)),
+        Some(version) if 1 <= version && version <= 3 => Ok(Some(version)),
         _ => Ok(None),
     }
+}
+
+/// Returns inputs, if the version has their kinds: only version 3 has answers of a disk.
+fn known_inputs(version: u64, inputs: Vec<InputDraft>) -> Option<Vec<InputDraft>>
+    ensures { option_map (λ known. map input_view known.items) result ≡ known_inputs version (map input_view inputs.items) }
+{
+    if version == 3 {
+        return Some(inputs);
+    }
+    if has_no_answer(&inputs) {
+        Some(inputs)
+    } else {
+        None
+    }
+}
+
+/// Reports whether no input is an answer of a disk.
+fn has_no_answer(inputs: &[InputDraft]) -> bool
+    ensures { IsTrue result ↔ All (λ input. ¬ (input.kind ≡ DISK)) inputs.now }
+{
+    inputs.iter().all(|input| input.kind != DISK)
 }

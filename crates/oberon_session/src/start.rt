@@ -1,9 +1,10 @@
 //! The initial state of a session, as its JSON has it.
 
 ghost use Rattle.std.specs.Prelude.{◌≡◌, ◌==◌, Some, if◌then◌else◌, option_map};
+ghost use Rattle.risc_devices.specs.declared.disk.TheConstants.{UNANSWERED};
 ghost use Rattle.serde_json.specs.Data.{no_members};
 ghost use Rattle.oberon_session.specs.inner.Drafts.{start_view};
-ghost use Rattle.oberon_session.specs.inner.Found.{start_found, start_in, start_object, with_start_member};
+ghost use Rattle.oberon_session.specs.inner.Found.{fits_version, start_found, start_in, start_object, with_start_member};
 ghost use Rattle.oberon_session.specs.inner.FoundViews.{start_found_view};
 ghost use Rattle.oberon_session.specs.inner.Taken.{Takes, all_members, one_value};
 
@@ -13,10 +14,11 @@ use crate::head::{Head, take_head};
 use crate::list::numbers;
 use crate::value::{next_key, number, pass, pass_other};
 use json::Reader;
+use risc_devices::UNANSWERED;
 use std::alloc::Global;
 
-/// What the members of an initial state say that have been read, and whether no other member was among them than those of version
-/// 1, and than those of version 2.
+/// What the members of an initial state say that have been read, and for each version whether no other member was among them than
+/// its own.
 #[derive(Drop)]
 pub struct StartMembers {
     pub registers: Option<Vec<u64>>,
@@ -25,8 +27,10 @@ pub struct StartMembers {
     pub flags: Option<u64>,
     pub rate: Option<u64>,
     pub phase: Option<u64>,
+    pub disk: Option<u64>,
     pub fits_version_1: bool,
     pub fits_version_2: bool,
+    pub fits_version_3: bool,
 }
 
 /// Takes a value, and returns what its members say if it is an object.
@@ -59,8 +63,10 @@ impl StartMembers {
             flags: None,
             rate: None,
             phase: None,
+            disk: None,
             fits_version_1: true,
             fits_version_2: true,
+            fits_version_3: true,
         }
     }
 
@@ -119,10 +125,17 @@ impl StartMembers {
                 self.fits_version_1 = false;
                 Ok(())
             }
+            "disk" => {
+                self.disk = number(reader, depth)?;
+                self.fits_version_1 = false;
+                self.fits_version_2 = false;
+                Ok(())
+            }
             _ => {
                 pass(reader, depth)?;
                 self.fits_version_1 = false;
                 self.fits_version_2 = false;
+                self.fits_version_3 = false;
                 Ok(())
             }
         }
@@ -140,6 +153,7 @@ impl StartMembers {
         let flags = self.flags?;
         let rate = since_2(version, self.rate)?;
         let phase = since_2(version, self.phase)?;
+        let disk = since_3(version, self.disk)?;
         let registers = self.registers?;
         if registers.len() != 16 {
             return None;
@@ -151,24 +165,36 @@ impl StartMembers {
             flags,
             rate,
             phase,
+            disk,
         })
     }
 
     /// Reports whether there are no other members than those of a version.
     fn is_only(&self, version: u64) -> bool
-        ensures { result ≡ (if version == 1 then self.now.fits_version_1 else self.now.fits_version_2) }
+        ensures { result ≡ fits_version version (start_found_view self.now) }
     {
-        if version == 1 {
-            self.fits_version_1
-        } else {
-            self.fits_version_2
+        match version {
+            1 => self.fits_version_1,
+            3 => self.fits_version_3,
+            _ => self.fits_version_2,
         }
     }
 }
 
-/// Returns the value of a member that version 2 has. In version 1 it is 0.
+/// Returns the value of a member that versions 2 and 3 have. In version 1 it is 0.
 fn since_2(version: u64, member: Option<u64>) -> Option<u64>
     ensures { result ≡ (if version == 1 then Some 0 else member) }
 {
     if version == 1 { Some(0) } else { member }
+}
+
+/// Returns the disk's last answer, which version 3 has. In versions 1 and 2 the disk has not answered.
+fn since_3(version: u64, member: Option<u64>) -> Option<u64>
+    ensures { result ≡ (if version == 3 then member else Some UNANSWERED) }
+{
+    if version == 3 {
+        member
+    } else {
+        Some(UNANSWERED as u64)
+    }
 }

@@ -1,13 +1,12 @@
-//! Memories stored as pages in a pool, and the table that names them.
+//! Memories stored as pages in a pool, and the table that names them. Keyframes of a run are stored by the same functions.
 
 ghost use Rattle.std.specs.Prelude.{◌≡◌, ◌≢◌, ◌+◌, ◌<◌, ◌≤◌, ◌^◌, All, IfOk, OnOk, ℕ, length, map, slice_index};
 ghost use Rattle.risc_pages.specs.declared.page.Page.{Page};
 ghost use Rattle.risc_pages.specs.declared.sizes.TheConstants.{PAGE_SLOTS};
 ghost use Rattle.oberon_session.specs.Parts.{placed_view};
 ghost use Rattle.risc_pages.specs.Tables.{IsNamed, table_words};
-ghost use Rattle.oberon_session.specs.Stored.{changed_pages, is_blank, store, store_page, store_pages};
+ghost use Rattle.oberon_session.specs.Stored.{IsGrown, changed_page_view, changed_pages, is_blank, store, store_page, store_pages, stored_view};
 ghost use Rattle.oberon_session.specs.Recorded.{first_stored};
-ghost use Rattle.oberon_session.specs.inner.Progress.{stored_view, changed_page_view};
 
 use crate::digits::PlacedPage;
 use oberon_format::MAX_PAGES;
@@ -36,14 +35,15 @@ pub fn store_first(alloc: Global, pages: &[PlacedPage]) -> Result<StoredPages, A
     Ok(StoredPages { pool, table })
 }
 
-/// Stores pages one after another, each in its slot.
+/// Stores pages one after another, each in its slot. If memory runs out, some of them are in the pool.
 pub fn store_pages(stored: &mut StoredPages, changed: &[(u16, Page)]) -> Result<(), AllocError>
     requires few { length changed.now ≤ PAGE_SLOTS }
-    requires room { length stored.old.pool ≤ MAX_PAGES }
+    requires room { length stored.old.pool + PAGE_SLOTS ≤ 2 ^ 31 }
     requires slots { All (λ (c : ℕ × Page). c.0 < PAGE_SLOTS) changed.now }
     ensures stored { OnOk result (stored_view stored.new
         ≡ store_pages (stored_view stored.old) (map changed_page_view changed.now)) }
     ensures grown { OnOk result (length stored.new.pool ≤ length stored.old.pool + length changed.now) }
+    ensures kept { IsGrown stored.old.pool stored.new.pool }
 {
     for (slot, page) in changed {
         store_page(stored, *slot, page)?;
@@ -58,6 +58,7 @@ fn store_page(stored: &mut StoredPages, slot: u16, page: &Page) -> Result<(), Al
     requires room { length stored.old.pool < 2 ^ 31 }
     ensures stored { OnOk result (stored_view stored.new ≡ store_page (stored_view stored.old) (slot, page.now.words)) }
     ensures grown { OnOk result (length stored.new.pool ≤ length stored.old.pool + 1) }
+    ensures kept { IsGrown stored.old.pool stored.new.pool }
 {
     if is_blank(page) {
         stored.table.set(slot, 0);

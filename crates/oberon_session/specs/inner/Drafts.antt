@@ -15,7 +15,7 @@ GivesOr why view found result =
     (λ fault. fault ≢ Memory → (fault ≡ why) × (found ≡ None))
 
 abbrev pub start_view : StartDraft → Start
-start_view s = record { registers = s.registers.items; h = s.h; pc = s.pc; flags = s.flags; rate = s.rate; phase = s.phase }
+start_view s = record { registers = s.registers.items; h = s.h; pc = s.pc; flags = s.flags; rate = s.rate; phase = s.phase; disk = s.disk }
 
 abbrev pub page_view : PageDraft → PageText
 page_view p = record { at = p.at; hex = p.hex.now }
@@ -25,6 +25,7 @@ input_view i = record { count = i.count; kind = i.kind; value = i.value }
 
 abbrev pub draft_view : DraftValue → Draft
 draft_view d = record {
+  version = d.version;
   start = start_view d.start;
   pages = map page_view d.pages.items;
   inputs = map input_view d.inputs.items;

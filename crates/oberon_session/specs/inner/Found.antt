@@ -5,7 +5,8 @@ use Rattle.std.specs.Option.{is_some}
 use Rattle.std.specs.Str.{bytes_eq}
 use Rattle.serde_json.specs.Data.{Data, Members}
 use Rattle.serde_json.specs.Find.{as_object, get_member}
-use Rattle.oberon_session.specs.Draft.{Draft, InputNumbers, PageText, Start, inputs_of, kind_of, page_names, pages_of}
+use Rattle.risc_devices.specs.declared.disk.TheConstants.{UNANSWERED}
+use Rattle.oberon_session.specs.Draft.{Draft, InputNumbers, PageText, Start, inputs_of, kind_of, known_inputs, page_names, pages_of}
 use Rattle.oberon_session.specs.Draft.{session_names, start_names, version_of}
 use Rattle.oberon_session.specs.Shape.{◌>>=◌, are_among, number_of, numbers_of, only_if, text_of}
 
@@ -65,8 +66,10 @@ pub record StartFound : Type 0 where
   pub flags : Option ℕ
   pub rate : Option ℕ
   pub phase : Option ℕ
+  pub disk : Option ℕ
   pub fits_version_1 : Bool
   pub fits_version_2 : Bool
+  pub fits_version_3 : Bool
 
 abbrev pub start_found : Members → StartFound
 start_found members = record {
@@ -76,8 +79,10 @@ start_found members = record {
   flags = get_member (codes "flags") members >>= number_of;
   rate = get_member (codes "rate") members >>= number_of;
   phase = get_member (codes "phase") members >>= number_of;
+  disk = get_member (codes "disk") members >>= number_of;
   fits_version_1 = are_among (start_names 1) members;
   fits_version_2 = are_among (start_names 2) members;
+  fits_version_3 = are_among (start_names 3) members;
 }
 
 abbrev pub with_start_member : List ℕ → Data → StartFound → StartFound
@@ -88,19 +93,26 @@ with_start_member name json found =
     else if bytes_eq name (codes "flags") then record found { flags = number_of json }
     else if bytes_eq name (codes "rate") then record found { rate = number_of json; fits_version_1 = false }
     else if bytes_eq name (codes "phase") then record found { phase = number_of json; fits_version_1 = false }
-    else record found { fits_version_1 = false; fits_version_2 = false }
+    else if bytes_eq name (codes "disk") then record found { disk = number_of json; fits_version_1 = false; fits_version_2 = false }
+    else record found { fits_version_1 = false; fits_version_2 = false; fits_version_3 = false }
+
+-- no other members were found than those of this version
+abbrev pub fits_version : ℕ → StartFound → Bool
+fits_version version found =
+    if version == 1 then found.fits_version_1 else if version == 3 then found.fits_version_3 else found.fits_version_2
 
 abbrev pub start_in : ℕ → StartFound → Option Start
 start_in version found = do
-  all ← only_if (if version == 1 then found.fits_version_1 else found.fits_version_2) found
+  all ← only_if (fits_version version found) found
   h ← all.h
   pc ← all.pc
   flags ← all.flags
   rate ← if version == 1 then Some 0 else all.rate
   phase ← if version == 1 then Some 0 else all.phase
+  disk ← if version == 3 then all.disk else Some UNANSWERED
   registers ← all.registers
   sixteen ← only_if (length registers == 16) registers
-  Some (record { registers = sixteen; h = h; pc = pc; flags = flags; rate = rate; phase = phase })
+  Some (record { registers = sixteen; h = h; pc = pc; flags = flags; rate = rate; phase = phase; disk = disk })
 
 -- ---- a session
 
@@ -152,6 +164,6 @@ draft_found found = do
   members ← all.start
   start ← start_in version members
   pages ← all.pages
-  inputs ← all.inputs
+  inputs ← all.inputs >>= known_inputs version
   checkpoints ← all.checkpoints
-  Some (record { start = start; pages = pages; inputs = inputs; checkpoints = checkpoints })
+  Some (record { version = version; start = start; pages = pages; inputs = inputs; checkpoints = checkpoints })

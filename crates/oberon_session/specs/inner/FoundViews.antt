@@ -17,8 +17,10 @@ start_found_view found = record {
   flags = found.flags;
   rate = found.rate;
   phase = found.phase;
+  disk = found.disk;
   fits_version_1 = found.fits_version_1;
   fits_version_2 = found.fits_version_2;
+  fits_version_3 = found.fits_version_3;
 }
 
 abbrev pub session_found_view : SessionMembers → SessionFound

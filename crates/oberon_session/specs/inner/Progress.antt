@@ -1,7 +1,6 @@
 -- What the recorder holds after each checkpoint.
 use Rattle.std.specs.Prelude.{ℕ, ◌≡◌, ◌≢◌, ◌+◌, ◌-◌, ◌<◌, ◌≤◌, List, length, map, None}
 use Rattle.std.specs.List.{range_with_len}
-use Rattle.risc_pages.specs.declared.page.Page.{Page}
 use Rattle.risc_pages.specs.declared.sizes.TheConstants.{MEMORY_WORDS}
 use Rattle.risc_pages.specs.Tables.{table_words}
 use Rattle.risc_model.specs.declared.event.Event.{Event}
@@ -9,22 +8,13 @@ use Rattle.risc_model.specs.MachineState.{State, cpu_state, IsCpuState}
 use Rattle.risc_model.specs.Replay.{run_of, sent_of}
 use Rattle.oberon_format.specs.CheckpointParts.{CheckpointParts, checkpoint_parts}
 use Rattle.oberon_format.specs.Defined.{claim_of}
-use Rattle.oberon_format.specs.Recording.{IsLawful, output_of}
-use Rattle.oberon_session.specs.Stored.{Stored, changed_pages}
+use Rattle.oberon_format.specs.Recording.{IsLawfulWithDisk, output_of}
+use Rattle.oberon_session.specs.Stored.{Stored, changed_page_view, changed_pages, stored_view}
 use Rattle.oberon_session.specs.Recorded.{checkpoint_of, count_of, first_fault, stored_of, output_up_to, state_of}
 use Rattle.oberon_session.specs.SessionParts.{SessionParts}
-use Rattle.oberon_session.specs.declared.storing.StoredPages.{StoredPages}
 use Rattle.oberon_session.specs.declared.record_fault.RecordFault.{RecordFault}
 use Rattle.oberon_session.specs.declared.recorder.Recorder.{Recorder}
 use Rattle.oberon_session.specs.declared.running.Reached.{Reached}
-
--- a pool and a table, as Rust has them
-abbrev pub stored_view : StoredPages → Stored
-stored_view l = record { pool = l.pool; table = l.table.numbers }
-
--- a changed page and its slot
-abbrev pub changed_page_view : ℕ × Page → ℕ × List ℕ
-changed_page_view c = (c.0, c.1.words)
 
 -- a machine that began with these words ended in this state and sent these bytes, and these are its changes
 pub record IsReached (begun : List ℕ) (state : State) (sent : List ℕ) (r : Reached) : Type 0 where
@@ -49,7 +39,7 @@ pub record IsRecorded (s : SessionParts) (k : ℕ) (stored : Stored) (checkpoint
   pub recorded : checkpoints ≡ checkpoints_to s k
   pub output : output_of checkpoints ≡ output_up_to s (count_of s k)
   pub sent_is : sent ≡ length (output_up_to s (count_of s k))
-  pub lawful : IsLawful (record { pool = stored.pool; inputs = s.inputs; checkpoints = checkpoints })
+  pub lawful : IsLawfulWithDisk (record { pool = stored.pool; inputs = s.inputs; checkpoints = checkpoints })
   pub content : (j : ℕ) → j ≤ k → IsContentOf s stored.pool j
   pub no_fault : first_fault s k ≡ None
 

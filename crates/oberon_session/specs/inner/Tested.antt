@@ -6,7 +6,7 @@ use Rattle.std.specs.List.Sorted.{IsStrictlyIncreasing}
 use Rattle.serde_json.specs.Data.{Data}
 use Rattle.serde_json.specs.Read.{read}
 use Rattle.risc_core.specs.declared.branch.TheConstants.{COUNTER_END}
-use Rattle.risc_devices.specs.InputKind.{IsInput}
+use Rattle.risc_devices.specs.InputKind.{IsInputWithDisk}
 use Rattle.risc_model.specs.declared.cpu.Cpu.{Cpu}
 use Rattle.risc_model.specs.declared.event.Event.{Event}
 use Rattle.risc_model.specs.DiskInputs.{IsOfDisk}
@@ -14,9 +14,9 @@ use Rattle.risc_model.specs.InputOrder.{AreOrdered}
 use Rattle.risc_model.specs.declared.inputs.TheConstants.{MAX_COUNT}
 use Rattle.risc_pages.specs.declared.sizes.TheConstants.{PAGE_SLOTS}
 use Rattle.oberon_session.specs.Digits.{all_placed_of}
-use Rattle.oberon_session.specs.Draft.{Draft, InputNumbers, PageText, Start, draft_of}
+use Rattle.oberon_session.specs.Draft.{Draft, InputNumbers, PageText, Start, draft_up_to}
 use Rattle.oberon_session.specs.inner.Drafts.{page_view, start_view}
-use Rattle.oberon_session.specs.Ranges.{input_counts, slots_of, timer_fits}
+use Rattle.oberon_session.specs.Ranges.{input_counts, max_inputs, slots_of, timer_fits}
 use Rattle.oberon_session.specs.Session.{Describes, numbers_of_event}
 use Rattle.oberon_session.specs.SessionParts.{CountsFit, SessionParts}
 use Rattle.oberon_session.specs.declared.digits.PlacedPage.{PlacedPage}
@@ -31,24 +31,24 @@ use Rattle.recording_limits.specs.declared.limits.TheConstants.{MAX_EVENTS}
 abbrev pub StartFits : Start → Type 0
 StartFits start =
     All (λ register. register < 2 ^ 32) start.registers × (start.h < 2 ^ 32) × (start.pc < COUNTER_END) × (start.flags < 16)
-    × IsTrue (timer_fits start.rate start.phase)
+    × IsTrue (timer_fits start.rate start.phase) × (start.disk < 2 ^ 32)
 
 abbrev pub PageFits : PageText → Type 0
 PageFits page = (page.at < PAGE_SLOTS) × (length page.hex ≤ 2048)
 
 abbrev pub InputFits : InputNumbers → Type 0
-InputFits input = (input.count ≤ MAX_COUNT) × IsInput input.kind input.value
+InputFits input = (input.count ≤ MAX_COUNT) × IsInputWithDisk input.kind input.value
 
 abbrev pub PagesFit : List PageText → Type 0
 PagesFit pages = (length pages ≤ PAGE_SLOTS) × All PageFits pages
 
-abbrev pub InputsFit : List InputNumbers → Type 0
-InputsFit inputs = (length inputs ≤ MAX_EVENTS) × All InputFits inputs
+abbrev pub InputsFit : ℕ → List InputNumbers → Type 0
+InputsFit version inputs = (length inputs ≤ max_inputs version) × All InputFits inputs
 
 pub record InRange (draft : Draft) : Type 0 where
   pub start : StartFits draft.start
   pub pages : PagesFit draft.pages
-  pub inputs : InputsFit draft.inputs
+  pub inputs : InputsFit draft.version draft.inputs
   pub checkpoints : CountsFit draft.checkpoints
 
 -- no number is below the one before it
@@ -92,14 +92,14 @@ PartsFit cpu rate phase pages inputs counts =
 
 -- ---- faults
 
--- the first rule that inputs break
-abbrev pub BreaksInputs : List InputNumbers → SessionFault → Type 0
-BreaksInputs inputs fault.Json = ⊥
-BreaksInputs inputs fault.Shape = ⊥
-BreaksInputs inputs fault.Range = InputsFit inputs → ⊥
-BreaksInputs inputs fault.Order = InputsFit inputs × (NeverFalls (input_counts inputs) → ⊥)
-BreaksInputs inputs fault.Hex = ⊥
-BreaksInputs inputs fault.Memory = ⊤
+-- the first rule that inputs break in a version
+abbrev pub BreaksInputs : ℕ → List InputNumbers → SessionFault → Type 0
+BreaksInputs version inputs fault.Json = ⊥
+BreaksInputs version inputs fault.Shape = ⊥
+BreaksInputs version inputs fault.Range = InputsFit version inputs → ⊥
+BreaksInputs version inputs fault.Order = InputsFit version inputs × (NeverFalls (input_counts inputs) → ⊥)
+BreaksInputs version inputs fault.Hex = ⊥
+BreaksInputs version inputs fault.Memory = ⊤
 
 -- the first rule that a draft breaks
 abbrev pub BreaksDraft : Draft → SessionFault → Type 0
@@ -120,18 +120,19 @@ pub record IsTested (draft : Draft) (inputs : List Event) : Type 0 where
 -- ---- a JSON value
 
 -- the value breaks no rule, and encodes this session
-abbrev pub IsSessionIn : Data → SessionParts → Type 0
-IsSessionIn json session = (draft : Draft) × (draft_of json ≡ Some draft) × InRange draft × InOrder draft × Describes draft session
+abbrev pub IsSessionIn : ℕ → Data → SessionParts → Type 0
+IsSessionIn newest json session =
+    (draft : Draft) × (draft_up_to newest json ≡ Some draft) × InRange draft × InOrder draft × Describes draft session
 
 -- this is the first rule that the value breaks
-abbrev pub BreaksIn : Data → SessionFault → Type 0
-BreaksIn json fault.Json = ⊥
-BreaksIn json fault.Shape = draft_of json ≡ None
-BreaksIn json fault.Range = (draft : Draft) × (draft_of json ≡ Some draft) × (InRange draft → ⊥)
-BreaksIn json fault.Order = (draft : Draft) × (draft_of json ≡ Some draft) × InRange draft × (InOrder draft → ⊥)
-BreaksIn json fault.Hex =
-    (draft : Draft) × (draft_of json ≡ Some draft) × InRange draft × InOrder draft × (all_placed_of draft.pages ≡ None)
-BreaksIn json fault.Memory = ⊤
+abbrev pub BreaksIn : ℕ → Data → SessionFault → Type 0
+BreaksIn newest json fault.Json = ⊥
+BreaksIn newest json fault.Shape = draft_up_to newest json ≡ None
+BreaksIn newest json fault.Range = (draft : Draft) × (draft_up_to newest json ≡ Some draft) × (InRange draft → ⊥)
+BreaksIn newest json fault.Order = (draft : Draft) × (draft_up_to newest json ≡ Some draft) × InRange draft × (InOrder draft → ⊥)
+BreaksIn newest json fault.Hex =
+    (draft : Draft) × (draft_up_to newest json ≡ Some draft) × InRange draft × InOrder draft × (all_placed_of draft.pages ≡ None)
+BreaksIn newest json fault.Memory = ⊤
 
 -- the event of an input, if that is in its range
 abbrev pub IsEventOf : InputNumbers → Option Event → Type 0
@@ -144,11 +145,11 @@ BreaksRanges inputs broken = broken ≢ fault.Memory → (broken ≡ fault.Range
 -- ---- a text in UTF-8
 
 -- the text breaks no rule, and encodes this session
-abbrev pub IsSessionOf : List ℕ → SessionParts → Type 0
-IsSessionOf text session = (json : Data) × (read text ≡ Some json) × IsSessionIn json session
+abbrev pub IsSessionOf : ℕ → List ℕ → SessionParts → Type 0
+IsSessionOf newest text session = (json : Data) × (read text ≡ Some json) × IsSessionIn newest json session
 
 -- this is the first rule that the text breaks
-abbrev pub BreaksOf : List ℕ → SessionFault → Type 0
-BreaksOf text fault.Json = read text ≡ None
-BreaksOf text fault.Memory = ⊤
-BreaksOf text own = (json : Data) × (read text ≡ Some json) × BreaksIn json own
+abbrev pub BreaksOf : ℕ → List ℕ → SessionFault → Type 0
+BreaksOf newest text fault.Json = read text ≡ None
+BreaksOf newest text fault.Memory = ⊤
+BreaksOf newest text own = (json : Data) × (read text ≡ Some json) × BreaksIn newest json own

@@ -1,11 +1,8 @@
 //! Sessions that are made of their parts: each refusal, and the session of the stored run.
 
 use oberon_format::{words_fit, write};
-use oberon_session::{
-    ExtendFault, PlacedPage, Session, SessionFault, begin_recording, make_recording, read_session,
-};
-use risc_core::COUNTER_END;
-use risc_devices::{Devices, Input};
+use oberon_session::{PlacedPage, Session, SessionFault, make_recording, read_session};
+use risc_devices::Input;
 use risc_model::{Cpu, Event, Flags, Inputs};
 use risc_pages::Page;
 use std::alloc::Global;
@@ -175,35 +172,10 @@ fn fault_of_an_answer(alloc: Global) -> Option<SessionFault> {
     Session::from_parts(cpu, 0, 0, Vec::new(alloc), inputs, Vec::new(alloc)).err()
 }
 
-/// Returns why a recording does not begin with a disk that has answered this.
-fn fault_with_disk(alloc: Global, disk: u32) -> Option<ExtendFault> {
-    let Ok(devices) = Devices::with_timer(0, 0, 0) else {
-        return None;
-    };
-    let Ok(words) = vec![in alloc; 0; 262_144] else {
-        return Some(ExtendFault::Memory);
-    };
-    let cpu = cpu_at(0, 0);
-    if cpu.pc >= COUNTER_END || cpu.stop > 4 {
-        return None;
-    }
-    begin_recording(alloc, cpu, devices.with_disk(disk), &words).err()
-}
-
 #[test]
 fn refuses_answers_of_a_disk(rt: HostRuntime) {
-    let alloc = rt.alloc();
     let range = Some(SessionFault::Range);
-    assert!(rt; fault_of_an_answer(alloc) == range, "as an input");
-    assert!(rt;
-        fault_with_disk(alloc, 255).is_none(),
-        "before its first answer"
-    );
-    let refused = Some(ExtendFault::Disk);
-    assert!(rt;
-        fault_with_disk(alloc, 0) == refused,
-        "in the initial state"
-    );
+    assert!(rt; fault_of_an_answer(rt.alloc()) == range, "as an input");
 }
 
 /// Returns the recording file of a session made of parts: MOV R0, 5 at word 0, and a checkpoint at 100.

@@ -1,9 +1,8 @@
 use Rattle.std.proofs.Common.{◌≡◌, ◌≤◌, ◌∙◌, [], ◌∷◌, ◌++◌, ℕ, List, ap, ap₂, arith, length, map, subst, sym}
-use Rattle.risc_devices.specs.declared.disk.TheConstants.{UNANSWERED}
 use Rattle.risc_model.specs.MachineState.{cpu_state}
 use Rattle.risc_pages.specs.Pages.{ArePages}
 use Rattle.oberon_format.specs.CheckpointParts.{CheckpointParts, checkpoint_parts}
-use Rattle.oberon_format.specs.Recording.{IsLawful, parts_of}
+use Rattle.oberon_format.specs.Recording.{IsLawfulWithDisk, parts_of}
 use Rattle.oberon_format.specs.declared.checkpoint.Checkpoint.{Checkpoint}
 use Rattle.oberon_session.proofs.Growing.{begun, is-begun, lawful-begun, no-table}
 use Rattle.oberon_session.specs.Extended.{IsBegun}
@@ -29,10 +28,9 @@ recording_of-requires c =
     λ i. record { pool = (stored-so i).pool; inputs = c.no_inputs.ensures i; checkpoints = checkpoints i } in
     let grown = ap length c.new.ensures in
     let few : length c.store_words.new.stored.pool ≤ 1024 = omega (arith, grown, c.in_ok-store_words.ensures.grown) in
-    let unanswered : c.disk.result ≡ UNANSWERED = grind arith in
-    subst IsLawful (sym is) (lawful-begun cpu devices words c.requires.whole
+    subst IsLawfulWithDisk (sym is) (lawful-begun cpu devices words c.requires.whole
     (record { count = c.args.cpu.count; registers = c.args.cpu.registers; auxiliary = c.args.cpu.auxiliary; counter = c.requires.counter; stops = c.requires.stop })
-    c.in_ok-checkpoint_of.ensures.devices (sym c.disk.ensures.value ∙ unanswered)
+    c.in_ok-checkpoint_of.ensures.devices
     (subst (λ (l : Stored). length l.pool ≤ 1024) stored-so few)
     (subst (λ (l : Stored). ArePages l.pool) stored-so c.len-pages.ensures.pages))
 

@@ -1,5 +1,5 @@
 use Rattle.std.proofs.lemmas.Result.{err_from_is_err_and}
-use Rattle.oberon_session.proofs.Growing.{grown-extended, grown-lawful, too-many-pages}
+use Rattle.oberon_session.proofs.Growing.{grown-extended, grown-lawful, grown-plain, too-many-pages}
 use Rattle.oberon_session.proofs.extension.extend_recording.Goals as goal
 
 pub returns-in_err-stored-clause-refused : goal.returns-in_err-stored-clause-refused
@@ -18,3 +18,9 @@ pub returns-clause-extended : goal.returns-clause-extended
 returns-clause-extended c =
     grown-extended c.args.recording c.in_ok-stored.ensures.lawful c.args.inputs.now c.in_ok-inputs.inputs c.args.claim.now c.requires.whole
     c.in_ok-stored.stored c.in_ok-stored.checkpoints.items c.in_ok-stored.ensures.grown c.in_ok-inputs.ensures c.recording_of.result c.recording_of.ensures.parts
+
+pub returns-clause-plain : goal.returns-clause-plain
+returns-clause-plain c = λ plain none.
+    grown-plain c.args.recording c.in_ok-stored.ensures.lawful c.args.inputs.now c.in_ok-inputs.inputs c.args.claim.now c.requires.whole
+    c.in_ok-stored.stored c.in_ok-stored.checkpoints.items c.in_ok-stored.ensures.grown c.in_ok-inputs.ensures
+    plain c.in_default.ensures.room.inputs_fit none c.recording_of.result c.recording_of.ensures.parts

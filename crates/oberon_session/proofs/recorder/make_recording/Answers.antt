@@ -4,10 +4,12 @@ use Rattle.std.specs.Prelude.{Result, Ok, Err, OnOk}
 use Rattle.risc_model.specs.declared.event.Event.{Event}
 use Rattle.oberon_format.specs.CheckpointParts.{checkpoint_parts}
 use Rattle.oberon_format.specs.Defined.{IsTrueAt}
-use Rattle.oberon_format.specs.Recording.{IsLawful, parts_of, RecordingParts}
+use Rattle.oberon_format.specs.Recording.{IsLawfulWithDisk, parts_of, RecordingParts}
 use Rattle.oberon_session.proofs.Whole.{made, recording-of, truth-of}
 use Rattle.oberon_session.specs.Recorded.{last_of, recording_of}
-use Rattle.oberon_session.specs.inner.Progress.{stored_view}
+use Rattle.oberon_session.specs.Stored.{stored_view}
+use Rattle.oberon_format.specs.Text.{IsPlain}
+use Rattle.oberon_session.proofs.Plain.{plain-recording}
 use Rattle.oberon_session.proofs.recorder.make_recording.Goals as goal
 
 pub returns-clause-recording : goal.returns-clause-recording
@@ -63,7 +65,17 @@ loop-k-preserved c = c.in_ok-record_next.ensures.recorded
 pub finish-requires : goal.finish-requires
 finish-requires c =
     let r = c.loop-k.recorder in
-    subst (λ (es : List Event). IsLawful (parts_of r.stored.pool es r.checkpoints.items)) (sym c.inputs.ensures.inputs) c.loop-k.invariant.lawful
+    subst (λ (es : List Event). IsLawfulWithDisk (parts_of r.stored.pool es r.checkpoints.items)) (sym c.inputs.ensures.inputs) c.loop-k.invariant.lawful
 
 pub returns-clause-refused : goal.returns-clause-refused
 returns-clause-refused c = IfErr-weaker c.finish.result _ _ (λ fault memory no. absurd (no memory)) c.finish.ensures.memory
+
+pub returns-clause-plain : goal.returns-clause-plain
+returns-clause-plain c = λ plain.
+    let s = c.args.session.now in
+    let r = c.loop-k.recorder in
+    let cs = map checkpoint_parts r.checkpoints.items in
+    let all : c.loop-k.k ≡ last_of s = omega (arith, ap length c.counts-k-end.ensures.counts) in
+    IfOk-weaker c.finish.result (λ (x : RecordingParts). x ≡ parts_of r.stored.pool c.inputs.result.now r.checkpoints.items) IsPlain
+    (λ x is. subst IsPlain (sym (is ∙ recording-of s (stored_view r.stored) cs r.sent c.loop-k.k all c.loop-k.invariant c.inputs.result.now c.inputs.ensures.inputs))
+    (plain-recording s plain)) c.finish.ensures.recording

@@ -3,7 +3,7 @@ use Rattle.std.proofs.lemmas.Result.{err_from_is_err_and}
 use Rattle.risc_pages.specs.declared.table.Table.{Table}
 use Rattle.risc_model.specs.MachineState.{cpu_state}
 use Rattle.recording_limits.specs.declared.limits.TheConstants.{MAX_PAGES}
-use Rattle.oberon_session.proofs.StoredPages.{few-changes, low-changes}
+use Rattle.oberon_session.proofs.PagesStored.{few-changes, low-changes}
 use Rattle.oberon_session.proofs.Reaching.{few-sent, inside-of, last-count, last-fit, next-count, recorded-more, refused-output, refused-pages}
 use Rattle.oberon_session.proofs.Steps.{count-rises}
 use Rattle.oberon_session.specs.declared.record_fault.RecordFault.{RecordFault}

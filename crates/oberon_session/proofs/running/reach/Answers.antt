@@ -3,7 +3,7 @@ use Rattle.risc_devices.specs.DeviceState.{DeviceState}
 use Rattle.risc_pages.specs.Tables.{table_words}
 use Rattle.risc_model.specs.MachineState.{CpuState, State, IsCpuState, cpu_state}
 use Rattle.risc_model.specs.Replay.{run_of, sent_of}
-use Rattle.oberon_session.proofs.StoredPages.{changes}
+use Rattle.oberon_session.proofs.PagesStored.{changes}
 use Rattle.oberon_session.proofs.running.reach.Goals as goal
 
 pub returns-clause-reached : goal.returns-clause-reached

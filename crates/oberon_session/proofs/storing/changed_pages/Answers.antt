@@ -1,5 +1,5 @@
 use Rattle.std.proofs.Common.{◌∙◌, ap₂}
-use Rattle.oberon_session.proofs.StoredPages.{changes}
+use Rattle.oberon_session.proofs.PagesStored.{changes}
 use Rattle.oberon_session.specs.Stored.{changed_pages}
 use Rattle.oberon_session.proofs.storing.changed_pages.Goals as goal
 

@@ -2,7 +2,7 @@ use Rattle.std.proofs.Common.{◌≡◌, ◌+◌, ◌<◌, ◌∙◌, ℕ, ap, a
 use Rattle.std.specs.Prelude.{slice_index}
 use Rattle.std.proofs.lemmas.Grind.{common_steps}
 use Rattle.std.proofs.lemmas.List.{length-map, length_push}
-use Rattle.oberon_session.proofs.StoredPages.{numbered-more, numbered-none}
+use Rattle.oberon_session.proofs.PagesStored.{numbered-more, numbered-none}
 use Rattle.oberon_session.proofs.Mapped.{at-mapped}
 use Rattle.oberon_session.specs.Parts.{placed_view}
 use Rattle.oberon_session.specs.Recorded.{first_stored}

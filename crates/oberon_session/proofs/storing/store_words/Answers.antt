@@ -1,6 +1,6 @@
 use Rattle.std.proofs.Common.{ap, arith, length}
 use Rattle.std.specs.Prelude.{Result, Ok, Err, OnOk}
-use Rattle.oberon_session.proofs.StoredPages.{few-changes, low-changes}
+use Rattle.oberon_session.proofs.PagesStored.{few-changes, low-changes}
 use Rattle.oberon_session.proofs.storing.store_words.Goals as goal
 
 pub store_pages-requires-clause-few : goal.store_pages-requires-clause-few

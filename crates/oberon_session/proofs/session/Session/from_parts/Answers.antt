@@ -12,7 +12,9 @@ pub returns-in-Some-clause-refused : goal.returns-in-Some-clause-refused
 returns-in-Some-clause-refused c = rw (c.deref.ensures.value, c.deref-2.ensures.value) at c.in-Some.ensures.some
 
 pub invariant_of-result : goal.invariant_of-result
-invariant_of-result c = rw (c.deref.ensures.value, c.deref-2.ensures.value) at c.in_default.ensures.none
+invariant_of-result c =
+    let lawful = rw (c.deref.ensures.value, c.deref-2.ensures.value) at c.in_default.ensures.none in
+    lawful.within
 
 pub returns-clause-lawful : goal.returns-clause-lawful
 returns-clause-lawful c =

@@ -12,10 +12,9 @@ use Rattle.oberon_session.proofs.Mapped.{unmapped}
 use Rattle.risc_pages.specs.Pages.{page_at}
 use Rattle.risc_pages.specs.Tables.{zero_numbers}
 use Rattle.oberon_session.specs.Digits.{PlacedWords}
-use Rattle.oberon_session.specs.Stored.{changed_pages}
+use Rattle.oberon_session.specs.Stored.{changed_pages, changed_page_view}
 use Rattle.oberon_session.specs.Recorded.{numbered}
 use Rattle.oberon_session.specs.SessionParts.{slots_in}
-use Rattle.oberon_session.specs.inner.Progress.{changed_page_view}
 
 pub numbered-suc : (pages : List PlacedWords) (n : ℕ) → numbered pages (suc n) ≡ slice_set (numbered pages n) (slice_index (slots_in pages) n) (suc n)
 unfolding numbered
