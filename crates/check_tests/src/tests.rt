@@ -4,6 +4,7 @@
 mod checked;
 mod claims;
 mod counted;
+mod disks;
 mod gates;
 mod held;
 mod jumps;

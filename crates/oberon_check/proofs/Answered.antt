@@ -5,7 +5,7 @@ use mathlib.Core.Logic.{dite}
 use native.Mathlib.Decide.{dec_lt}
 use Rattle.oberon_claims.specs.Pass.{PassRecord}
 use Rattle.oberon_claims.specs.Ledger.{all_reported, IsLeastOf}
-use Rattle.oberon_format.specs.Recording.{RecordingParts, IsLawful, last_of}
+use Rattle.oberon_format.specs.Recording.{RecordingParts, IsLawfulWithDisk, last_of}
 use Rattle.oberon_format.specs.Defined.{Outcome, claimed, defined, IsTrueAt}
 use Rattle.oberon_check.specs.declared.part.Part.{Part}
 use Rattle.oberon_check.specs.declared.verdict.Verdict.{Verdict}
@@ -23,7 +23,7 @@ use Rattle.oberon_check.proofs.Parts.{not_first}
 use Rattle.oberon_check.proofs.Gathered.{AllBack, at_most_once, occurs_or_after, reported_occurs}
 
 -- if the checkpoints up to n are true, the segments below n hold
-hold_of : (r : RecordingParts) → IsLawful r → (n : ℕ) → n ≤ last_of r → ((k : ℕ) → 0 < k → k ≤ n → IsTrueAt r k) → HoldBelow r n
+hold_of : (r : RecordingParts) → IsLawfulWithDisk r → (n : ℕ) → n ≤ last_of r → ((k : ℕ) → 0 < k → k ≤ n → IsTrueAt r k) → HoldBelow r n
 hold_of r lawful zero inside truths j below = absurd (omega arith)
 hold_of r lawful (suc n) inside truths j below =
     let before = hold_of r lawful n (omega arith) (λ k some within. truths k some (omega arith)) in
@@ -38,7 +38,7 @@ below_within : (r : RecordingParts) (v : Verdict) → IsVerdict r v → below_an
 below_within r (Accepted checkpoints steps) is = let e = is.checkpoints_is in omega arith
 below_within r (FalseAt checkpoint count part) is = let inside = is.inside in omega arith
 
-hold_below_answer : (r : RecordingParts) → IsLawful r → (v : Verdict) → IsVerdict r v → HoldBelow r (below_answer v)
+hold_below_answer : (r : RecordingParts) → IsLawfulWithDisk r → (v : Verdict) → IsVerdict r v → HoldBelow r (below_answer v)
 hold_below_answer r lawful (Accepted checkpoints steps) is =
     let e = is.checkpoints_is in
     hold_of r lawful checkpoints (omega arith) (λ k some within. is.true_at k some (omega arith))
@@ -58,13 +58,13 @@ this_part x y p None first same = absurd (not_first x y p same first)
 this_part x y p (Some q) first is = sym is ∙ first
 
 -- a verdict of a segment below the answer's says that the segment held
-held_below : (r : RecordingParts) → IsLawful r → (vs : List SegmentVerdictRecord) → ((k : ℕ) → k < length vs → IsTruth r vs k) → (v : Verdict) → IsVerdict r v
+held_below : (r : RecordingParts) → IsLawfulWithDisk r → (vs : List SegmentVerdictRecord) → ((k : ℕ) → k < length vs → IsTruth r vs k) → (v : Verdict) → IsVerdict r v
     → (k : ℕ) → k < length vs → segment_at vs k < below_answer v → part_at vs k ≡ None
 held_below r lawful vs truths v is k inside below =
     no_part _ _ (part_at vs k) (hold_below_answer r lawful v is (segment_at vs k) below) (truths k inside).replay
 
 -- so no segment below the answer's was reported
-none_reported_below : (r : RecordingParts) (cut : ℕ) (ps : List PassRecord) (vs : List SegmentVerdictRecord) → AllBack (last_of r) cut ps vs → IsLawful r → ((k : ℕ) → k < length vs → IsTruth r vs k)
+none_reported_below : (r : RecordingParts) (cut : ℕ) (ps : List PassRecord) (vs : List SegmentVerdictRecord) → AllBack (last_of r) cut ps vs → IsLawfulWithDisk r → ((k : ℕ) → k < length vs → IsTruth r vs k)
     → (v : Verdict) → IsVerdict r v → (x : ℕ) → Contains (all_reported ps) x → x < below_answer v → ⊥
 none_reported_below r cut ps vs b lawful truths v is x reported below =
     let k = reported_occurs (last_of r) cut ps vs b x reported in
@@ -72,7 +72,7 @@ none_reported_below r cut ps vs b lawful truths v is x reported below =
     not_some _ (held_below r lawful vs truths v is k.0 k.1 (omega arith)) k.3
 
 -- each segment up to the answer's has a verdict
-occurs_to : (r : RecordingParts) (cut : ℕ) (ps : List PassRecord) (vs : List SegmentVerdictRecord) → AllBack (last_of r) cut ps vs → IsLawful r → ((k : ℕ) → k < length vs → IsTruth r vs k)
+occurs_to : (r : RecordingParts) (cut : ℕ) (ps : List PassRecord) (vs : List SegmentVerdictRecord) → AllBack (last_of r) cut ps vs → IsLawfulWithDisk r → ((k : ℕ) → k < length vs → IsTruth r vs k)
     → (v : Verdict) → IsVerdict r v → (s : ℕ) → s < last_of r → s ≤ below_answer v → OccursBelow vs (length vs) s
 occurs_to r cut ps vs b lawful truths v is s inside within =
     ⊎_elim
@@ -80,7 +80,7 @@ occurs_to r cut ps vs b lawful truths v is s inside within =
     (λ (w : (x : ℕ) × Contains (all_reported ps) x × (x < s)). (let before = w.2 in absurd (none_reported_below r cut ps vs b lawful truths v is w.0 w.1 (omega arith))))
     (occurs_or_after (last_of r) cut ps vs b s inside)
 
-has_below : (r : RecordingParts) (cut : ℕ) (ps : List PassRecord) (vs : List SegmentVerdictRecord) → AllBack (last_of r) cut ps vs → IsLawful r → ((k : ℕ) → k < length vs → IsTruth r vs k)
+has_below : (r : RecordingParts) (cut : ℕ) (ps : List PassRecord) (vs : List SegmentVerdictRecord) → AllBack (last_of r) cut ps vs → IsLawfulWithDisk r → ((k : ℕ) → k < length vs → IsTruth r vs k)
     → (v : Verdict) → IsVerdict r v → (s : ℕ) → s < below_answer v → HasSegmentVerdict r vs s None
 has_below r cut ps vs b lawful truths v is s below =
     let within = below_within r v is in
@@ -94,7 +94,7 @@ has_below r cut ps vs b lawful truths v is s below =
       replay = hold_below_answer r lawful v is s below;
     }
 
-has_answer : (r : RecordingParts) (cut : ℕ) (ps : List PassRecord) (vs : List SegmentVerdictRecord) → AllBack (last_of r) cut ps vs → IsLawful r → ((k : ℕ) → k < length vs → IsTruth r vs k)
+has_answer : (r : RecordingParts) (cut : ℕ) (ps : List PassRecord) (vs : List SegmentVerdictRecord) → AllBack (last_of r) cut ps vs → IsLawfulWithDisk r → ((k : ℕ) → k < length vs → IsTruth r vs k)
     → (v : Verdict) → IsVerdict r v → HasAnswer r vs v
 has_answer r cut ps vs b lawful truths (Accepted checkpoints steps) is = tt
 has_answer r cut ps vs b lawful truths (FalseAt checkpoint count part) is =
@@ -142,7 +142,7 @@ each_once last cut ps vs b j k inside_j inside_k same =
     (λ nor. omega arith))
 
 pub answered : (r : RecordingParts) (cut : ℕ) (ds : List DoneRecord) → AllBack (last_of r) cut (passes_of ds) (all_verdicts ds) → All (λ v. v.recording ≡ r) (all_verdicts ds)
-    → (least : Option ℕ) → IsLeastOf (all_reported (passes_of ds)) least → IsLawful r → All IsTrueSegmentVerdict (all_verdicts ds) → (v : Verdict) → IsVerdict r v → IsGathered r ds v
+    → (least : Option ℕ) → IsLeastOf (all_reported (passes_of ds)) least → IsLawfulWithDisk r → All IsTrueSegmentVerdict (all_verdicts ds) → (v : Verdict) → IsVerdict r v → IsGathered r ds v
 answered r cut ds b of least is_least lawful each v is =
     let truths = truth r (all_verdicts ds) of each in record {
       once = each_once (last_of r) cut (passes_of ds) (all_verdicts ds) b;

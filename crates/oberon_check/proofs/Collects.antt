@@ -2,7 +2,7 @@
 use Rattle.std.proofs.Common.{◌≡◌, ℕ, zero, suc, ◌+◌, ◌-◌, ◌<◌, ◌≤◌, List, length, get_or, Bool, Option, None, Some, refl, ap, sym, ◌∙◌, subst, arith}
 use Rattle.std.specs.Prelude.{All, IsSome}
 use Rattle.std.proofs.lemmas.List.{get_or_default}
-use Rattle.oberon_format.specs.Recording.{RecordingParts, IsLawful, count_at, last_of}
+use Rattle.oberon_format.specs.Recording.{RecordingParts, IsLawfulWithDisk, count_at, last_of}
 use Rattle.oberon_format.specs.Defined.{Outcome, claimed, IsTrueAt}
 use Rattle.oberon_check.specs.declared.collector.TheConstants.{MAX_SEGMENTS}
 use Rattle.oberon_check.specs.declared.part.Part.{Part}
@@ -54,14 +54,14 @@ hold_below r vs n seen least truths tally few marked j below =
     subst P (λ i. (is i, held i)) t
 
 -- if the segments below n hold, the checkpoints up to n are true
-pub true_to : (r : RecordingParts) → IsLawful r → (n : ℕ) → n ≤ last_of r → HoldBelow r n → (k : ℕ) → 0 < k → k ≤ n → IsTrueAt r k
+pub true_to : (r : RecordingParts) → IsLawfulWithDisk r → (n : ℕ) → n ≤ last_of r → HoldBelow r n → (k : ℕ) → 0 < k → k ≤ n → IsTrueAt r k
 true_to r lawful n inside hold zero some within = absurd (omega arith)
 true_to r lawful n inside hold (suc i) some within =
     let e : i + 1 ≡ suc i = omega arith in
     subst (IsTrueAt r) e (hold i (omega arith) ∙ replayed-defined r lawful i (omega arith) (λ j h. hold j (omega arith)))
 
 -- the least failed segment leads to the first false checkpoint
-pub first_false : (r : RecordingParts) (vs : List SegmentVerdictRecord) (n : ℕ) (f : ℕ × Part) (count : ℕ) → count ≡ count_at r (f.0 + 1) → IsLawful r → ((k : ℕ) → k < n → IsTruth r vs k) → IsLeastFailed vs n (Some f) → HoldBelow r f.0 → IsFirstFalse r (f.0 + 1) count f.1
+pub first_false : (r : RecordingParts) (vs : List SegmentVerdictRecord) (n : ℕ) (f : ℕ × Part) (count : ℕ) → count ≡ count_at r (f.0 + 1) → IsLawfulWithDisk r → ((k : ℕ) → k < n → IsTruth r vs k) → IsLeastFailed vs n (Some f) → HoldBelow r f.0 → IsFirstFalse r (f.0 + 1) count f.1
 first_false r vs n f count is_count lawful truths is hold =
     let k : ℕ = is.0.0 in
     let t = truths k is.0.1 in
@@ -115,14 +115,14 @@ end_within r vs n (Some f) truths is = let h = (truths is.0.0 is.0.1).inside in 
 
 -- what `collect` knows once each segment below the end is marked
 pub record IsCollected (r : RecordingParts) (vs : List SegmentVerdictRecord) (seen : List Bool) (least : Option (ℕ × Part)) : Type 0 where
-  pub lawful : IsLawful r
+  pub lawful : IsLawfulWithDisk r
   pub truths : (k : ℕ) → k < length vs → IsTruth r vs k
   pub tally : IsTally vs (length vs) seen least
   pub within : end_of least (last_of r) ≤ last_of r
   pub few : end_of least (last_of r) ≤ MAX_SEGMENTS
   pub marked : (s : ℕ) → s < end_of least (last_of r) → IsMarked seen s
 
-pub collected : (r : RecordingParts) (vs : List SegmentVerdictRecord) (seen : List Bool) (least : Option (ℕ × Part)) (count end : ℕ) → IsLawful r → All (λ v. v.recording ≡ r) vs → All IsTrueSegmentVerdict vs → IsTally vs (length vs) seen least
+pub collected : (r : RecordingParts) (vs : List SegmentVerdictRecord) (seen : List Bool) (least : Option (ℕ × Part)) (count end : ℕ) → IsLawfulWithDisk r → All (λ v. v.recording ≡ r) vs → All IsTrueSegmentVerdict vs → IsTally vs (length vs) seen least
     → count ≡ length r.checkpoints → end ≡ end_of least (count - 1) → ((s : ℕ) → s < end → IsMarked seen s) → IsCollected r vs seen least
 collected r vs seen least count end lawful of each tally is at marked =
     let t = truth r vs of each in

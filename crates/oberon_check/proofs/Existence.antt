@@ -2,7 +2,7 @@
 use Rattle.std.proofs.Common.{◌≡◌, ◌⊎◌, ◌↔◌, ℕ, zero, suc, ◌<◌, ◌≤◌, length, Option, None, Some, refl, ◌∙◌, subst, arith, inl, inr, ⊎_elim}
 use mathlib.Core.Logic.{dite}
 use native.Mathlib.Decide.{dec_lt}
-use Rattle.oberon_format.specs.Recording.{RecordingParts, IsLawful, checkpoint_at, count_at, last_of}
+use Rattle.oberon_format.specs.Recording.{RecordingParts, IsLawfulWithDisk, checkpoint_at, count_at, last_of}
 use Rattle.oberon_format.specs.Defined.{Outcome, claimed, defined, IsTrueAt}
 use Rattle.oberon_check.specs.declared.part.Part.{Part}
 use Rattle.oberon_check.specs.declared.verdict.Verdict.{Verdict}
@@ -17,33 +17,33 @@ none_or_some : (o : Option Part) → (o ≡ None) ⊎ ((p : Part) × (o ≡ Some
 none_or_some None = inl refl
 none_or_some (Some p) = inr (p, refl)
 
-claimed-sized : (r : RecordingParts) → IsLawful r → (k : ℕ) → k < length r.checkpoints → IsSized (claimed r k).state
+claimed-sized : (r : RecordingParts) → IsLawfulWithDisk r → (k : ℕ) → k < length r.checkpoints → IsSized (claimed r k).state
 claimed-sized r lawful k inside =
     let fit = lawful.fit k inside in
     let count = fit.table.count in
     let words = length-table_words r.pool (checkpoint_at r k).table lawful.pool fit.named in
     record { registers = fit.cpu.count; words = omega arith }
 
-defined-sized : (r : RecordingParts) → IsLawful r → (k : ℕ) → IsSized (defined r k).state
+defined-sized : (r : RecordingParts) → IsLawfulWithDisk r → (k : ℕ) → IsSized (defined r k).state
 defined-sized r lawful k =
     let first = claimed-sized r lawful 0 lawful.some in
     let kept = run_of-sizes r.inputs 0 (count_at r k) (claimed r 0).state in
     record { registers = kept.registers ∙ first.registers; words = kept.words ∙ first.words }
 
-true_if_none : (r : RecordingParts) → IsLawful r → (k : ℕ) → k ≤ last_of r → first_difference (claimed r k) (defined r k) ≡ None → IsTrueAt r k
+true_if_none : (r : RecordingParts) → IsLawfulWithDisk r → (k : ℕ) → k ≤ last_of r → first_difference (claimed r k) (defined r k) ≡ None → IsTrueAt r k
 true_if_none r lawful k inside none =
     let some = lawful.some in
     same_in_all (claimed r k) (defined r k) (claimed-sized r lawful k (omega arith)) (defined-sized r lawful k) none
 
 -- a checkpoint is true exactly if no part differs
-pub none_if_true : (r : RecordingParts) → IsLawful r → (k : ℕ) → k ≤ last_of r → (first_difference (claimed r k) (defined r k) ≡ None) ↔ IsTrueAt r k
+pub none_if_true : (r : RecordingParts) → IsLawfulWithDisk r → (k : ℕ) → k ≤ last_of r → (first_difference (claimed r k) (defined r k) ≡ None) ↔ IsTrueAt r k
 none_if_true r lawful k inside = (
   true_if_none r lawful k inside,
   λ same. subst (λ (o : Outcome). first_difference (claimed r k) o ≡ None) same (none_differs (claimed r k)),
 )
 
 -- a checkpoint is true, or there is a first part in which it differs
-true_or_false : (r : RecordingParts) → IsLawful r → (k : ℕ) → k ≤ last_of r → IsTrueAt r k ⊎ ((p : Part) × (first_difference (claimed r k) (defined r k) ≡ Some p))
+true_or_false : (r : RecordingParts) → IsLawfulWithDisk r → (k : ℕ) → k ≤ last_of r → IsTrueAt r k ⊎ ((p : Part) × (first_difference (claimed r k) (defined r k) ≡ Some p))
 true_or_false r lawful k inside =
     elim (none_or_some (first_difference (claimed r k) (defined r k))) [
       | inl none ↦ inl (true_if_none r lawful k inside none)
@@ -51,7 +51,7 @@ true_or_false r lawful k inside =
     ]
 
 -- all checkpoints up to one are true, or there is a first false one
-scan : (r : RecordingParts) → IsLawful r → (n : ℕ) → n ≤ last_of r → ((k : ℕ) → 0 < k → k ≤ n → IsTrueAt r k) ⊎ ((k : ℕ) × (p : Part) × IsFirstFalse r k (count_at r k) p)
+scan : (r : RecordingParts) → IsLawfulWithDisk r → (n : ℕ) → n ≤ last_of r → ((k : ℕ) → 0 < k → k ≤ n → IsTrueAt r k) ⊎ ((k : ℕ) × (p : Part) × IsFirstFalse r k (count_at r k) p)
 scan r lawful zero inside = inl (λ k some few. absurd (omega arith))
 scan r lawful (suc n) inside =
     ⊎_elim
@@ -65,7 +65,7 @@ scan r lawful (suc n) inside =
     (λ (f : (k : ℕ) × (p : Part) × IsFirstFalse r k (count_at r k) p). inr f)
     (scan r lawful n (omega arith))
 
-pub some_verdict : (r : RecordingParts) → IsLawful r → (v : Verdict) × IsVerdict r v
+pub some_verdict : (r : RecordingParts) → IsLawfulWithDisk r → (v : Verdict) × IsVerdict r v
 some_verdict r lawful =
     ⊎_elim
     (λ (all : (k : ℕ) → 0 < k → k ≤ last_of r → IsTrueAt r k).

@@ -12,6 +12,7 @@ pub mod Series
 pub mod Gathered
 pub mod Shares
 pub mod Answered
+pub mod InVersions
 pub mod Lines
 pub mod Accepting
 pub mod Migrations

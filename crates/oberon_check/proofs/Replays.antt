@@ -5,7 +5,7 @@ use Rattle.risc_model.specs.MachineState.{State}
 use Rattle.risc_model.specs.Replay.{run_of, sent_of}
 use Rattle.risc_model.proofs.LawLemmas.{run_of-on}
 use Rattle.risc_model.proofs.RunLemmas.{run_of-none}
-use Rattle.oberon_format.specs.Recording.{RecordingParts, IsLawful, count_at, last_of}
+use Rattle.oberon_format.specs.Recording.{RecordingParts, IsLawfulWithDisk, count_at, last_of}
 use Rattle.oberon_format.specs.Defined.{Outcome, claimed, state_at, defined}
 use Rattle.oberon_check.specs.Segment.{replayed}
 
@@ -23,7 +23,7 @@ abbrev pub HoldBelow : RecordingParts → ℕ → Type 0
 HoldBelow r i = (j : ℕ) → j < i → claimed r (j + 1) ≡ replayed r j
 
 -- then the state that checkpoint i claims is the defined one
-pub claimed-defined : (r : RecordingParts) → IsLawful r → (i : ℕ) → i ≤ last_of r → HoldBelow r i → (claimed r i).state ≡ state_at r (count_at r i)
+pub claimed-defined : (r : RecordingParts) → IsLawfulWithDisk r → (i : ℕ) → i ≤ last_of r → HoldBelow r i → (claimed r i).state ≡ state_at r (count_at r i)
 claimed-defined r lawful zero inside hold =
     sym (run_of-none r.inputs 0 0 (claimed r 0).state refl) ∙ ap (λ (n : ℕ). state_at r n) (sym lawful.begins)
 claimed-defined r lawful (suc i) inside hold =
@@ -37,7 +37,7 @@ claimed-defined r lawful (suc i) inside hold =
     ∙ ap (λ (k : ℕ). state_at r (count_at r k)) n
 
 -- and the replay of segment i gives the defined outcome at checkpoint i + 1
-pub replayed-defined : (r : RecordingParts) → IsLawful r → (i : ℕ) → i < last_of r → HoldBelow r i → replayed r i ≡ defined r (i + 1)
+pub replayed-defined : (r : RecordingParts) → IsLawfulWithDisk r → (i : ℕ) → i < last_of r → HoldBelow r i → replayed r i ≡ defined r (i + 1)
 replayed-defined r lawful i inside hold =
     let n : i ≡ i + 1 - 1 = omega arith in
     let from : ℕ = count_at r i in

@@ -3,6 +3,8 @@ pub mod Difference
 pub mod Verdict
 pub mod Line
 pub mod Headline
+pub mod Versions
+pub mod HeadlineWithDisk
 pub mod Laws
 pub mod Segment
 pub mod Collecting

@@ -1,7 +1,7 @@
 -- The replay of one segment, which leads from checkpoint i to checkpoint i + 1.
 use Rattle.std.specs.Prelude.{ℕ, ◌+◌, ◌-◌, ◌<◌, Option, ◌≡◌, List, [], ◌∷◌, MatchOption}
 use Rattle.risc_model.specs.Replay.{run_of, sent_of}
-use Rattle.oberon_format.specs.Recording.{RecordingParts, IsLawful, count_at, last_of}
+use Rattle.oberon_format.specs.Recording.{RecordingParts, IsLawfulWithDisk, count_at, last_of}
 use Rattle.oberon_format.specs.Defined.{Outcome, claimed}
 use Rattle.oberon_check.specs.declared.part.Part.{Part}
 use Rattle.oberon_check.specs.Difference.{IsDifference}
@@ -27,7 +27,7 @@ pub record SegmentVerdictRecord : Type 0 where
 
 -- the segment verdict is true of its recording
 pub record IsTrueSegmentVerdict (v : SegmentVerdictRecord) : Type 0 where
-  pub lawful : IsLawful v.recording
+  pub lawful : IsLawfulWithDisk v.recording
   pub inside : v.segment < last_of v.recording
   pub replay : IsSegmentPart v.recording v.segment v.part
 

@@ -3,7 +3,7 @@
 //! This module tallies segment verdicts, and rejects lists that have a verdict too many or too few. The replay of one segment
 //! is in `segment`.
 ghost use Rattle.std.specs.Prelude.{◌≡◌, ◌<◌, ◌≤◌, All, IfOk, IfErr, OnOk, length};
-ghost use Rattle.oberon_format.specs.Recording.{IsLawful};
+ghost use Rattle.oberon_format.specs.Recording.{IsLawfulWithDisk};
 ghost use Rattle.oberon_check.specs.Verdict.{IsVerdict};
 ghost use Rattle.oberon_check.specs.Segment.{IsTrueSegmentVerdict};
 ghost use Rattle.oberon_check.specs.Collecting.{IsFirstDouble, IsCollectFault, collect_fault_number};
@@ -114,7 +114,7 @@ pub fn collect(r: &Recording, verdicts: &[SegmentVerdict]) -> Result<Verdict, Co
     ensures whole { OnOk result ((fault : _) → ¬ (IsCollectFault r.now verdicts.now fault)) }
     ensures fault { IfErr result (IsCollectFault r.now verdicts.now) }
     ensures truth { OnOk result (All IsTrueSegmentVerdict verdicts.now) }
-    ensures lawful { IsLawful r.now }
+    ensures lawful { IsLawfulWithDisk r.now }
 {
     let last = r.count() - 1;
     let tally = match tally_of(verdicts) {

@@ -3,12 +3,14 @@
 //! This module has what is printed. `oberon_format` decodes the file, and `check` checks the recording.
 ghost use Rattle.std.specs.Prelude.{◌≡◌, ◌≤◌, IfOk};
 ghost use Rattle.oberon_check.specs.Headline.{IsLineOf};
+ghost use Rattle.oberon_check.specs.HeadlineWithDisk.{IsLineIn};
 ghost use Rattle.oberon_check.specs.Line.{line_of, status_of};
 
 use crate::check::{CheckFault, check_recording};
 use crate::gate::Gate;
 use crate::verdict::Verdict;
-use oberon_format::{Fault, read, refusal};
+use crate::versions::Versions;
+use oberon_format::{Fault, refusal};
 use std::alloc::Global;
 use std::sync::Wait;
 use std::thread::Threads;
@@ -40,7 +42,24 @@ pub fn check_bytes<R: Threads + Wait + Sync, G: Gate + Sync>(
     requires cut { 1 ≤ cut }
     ensures { IfOk result (λ report. IsLineOf bytes.now report.line.items report.status) }
 {
-    match read(alloc, bytes) {
+    check_bytes_in(rt, alloc, Versions::WithoutDisk, bytes, workers, cut, gate)
+}
+
+/// Checks the bytes of a recording file in one of these versions, as `check_bytes` does those of versions 1 and 2.
+pub fn check_bytes_in<R: Threads + Wait + Sync, G: Gate + Sync>(
+    rt: &R,
+    alloc: Global,
+    versions: Versions,
+    bytes: &[u8],
+    workers: u32,
+    cut: u32,
+    gate: &G,
+) -> Result<Report, CheckFault>
+    requires workers { (1 ≤ workers) × (workers ≤ 64) }
+    requires cut { 1 ≤ cut }
+    ensures { IfOk result (λ report. IsLineIn versions bytes.now report.line.items report.status) }
+{
+    match versions.read(alloc, bytes) {
         Ok(r) => {
             let verdict = check_recording(rt, alloc, &r, workers, cut, gate)?;
             answered(alloc, &verdict)
@@ -55,8 +74,8 @@ pub fn check_bytes<R: Threads + Wait + Sync, G: Gate + Sync>(
 
 /// Returns the report on a recording with this verdict.
 fn answered(alloc: Global, verdict: &Verdict) -> Result<Report, CheckFault>
-    ensures line { IfOk result (λ report. report.line.items ≡ line_of verdict.now) }
-    ensures status { IfOk result (λ report. report.status ≡ status_of verdict.now) }
+    ensures { IfOk result (λ report.
+        (report.line.items ≡ line_of verdict.now) × (report.status ≡ status_of verdict.now)) }
 {
     Ok(Report {
         line: verdict.line(alloc)?,

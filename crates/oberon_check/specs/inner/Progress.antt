@@ -1,7 +1,7 @@
 -- How a worker's pass and its list of verdicts change, job by job.
 use Rattle.std.specs.Prelude.{ℕ, ◌≡◌, List, ◌++◌, All, Contains}
 use Rattle.oberon_claims.specs.Pass.{PassRecord}
-use Rattle.oberon_format.specs.Recording.{RecordingParts, IsLawful, last_of}
+use Rattle.oberon_format.specs.Recording.{RecordingParts, IsLawfulWithDisk, last_of}
 use Rattle.oberon_check.specs.declared.collector.CollectFault.{CollectFault}
 use Rattle.oberon_check.specs.declared.verdict.Verdict.{Verdict}
 use Rattle.oberon_check.specs.Collecting.{IsCollectFault}
@@ -51,4 +51,4 @@ pub record IsLooked (p q : PassRecord) : Type 0 where
 pub record AreCollected (r : RecordingParts) (done : List DoneRecord) (verdicts : List SegmentVerdictRecord) : Type 0 where
   pub recordings : All (λ v. v.recording ≡ r) verdicts
   pub whole : (fault : CollectFault) → ¬ (IsCollectFault r verdicts fault)
-  pub gathered : IsLawful r → All IsTrueSegmentVerdict verdicts → (verdict : Verdict) → IsVerdict r verdict → IsGathered r done verdict
+  pub gathered : IsLawfulWithDisk r → All IsTrueSegmentVerdict verdicts → (verdict : Verdict) → IsVerdict r verdict → IsGathered r done verdict
