@@ -5,7 +5,8 @@ use Rattle.hex.specs.Hex.{IsBytes}
 use Rattle.sha2.specs.Sha256.{digest_bytes, sha256}
 use Rattle.sha2.proofs.Facts256.{length-sha256}
 use Rattle.risc_model.specs.declared.inputs.TheConstants.{MAX_COUNT}
-use Rattle.oberon_format.proofs.Named.{fault_named}
+use Rattle.oberon_check.specs.declared.versions.Versions.{Versions}
+use Rattle.oberon_check.proofs.InVersions.{lawful_in, named_in}
 use Rattle.oberon_format.specs.Defined.{claimed}
 use Rattle.oberon_format.specs.Line.{IsNamedFault}
 use Rattle.oberon_format.specs.Recording.{RecordingParts, count_at, last_of}
@@ -15,7 +16,7 @@ use Rattle.oberon_check.specs.Segment.{replayed}
 use Rattle.oberon_shards.specs.declared.shard.Shard.{Shard}
 use Rattle.oberon_shards.specs.declared.shard.Finding.{Finding}
 use Rattle.oberon_shards.specs.declared.shard.Finding.TheVariants.{Holds, Fails, Refused}
-use Rattle.oberon_shards.specs.Shard.{IsFailed, IsFound, IsHeld, IsShardOf}
+use Rattle.oberon_shards.specs.Shard.{IsFailed, IsFound, IsHeld, IsShardIn}
 use Rattle.oberon_shards.specs.Lines.{HasLine, IsInRanges, IsPrintable, IsSame}
 use Rattle.oberon_shards.proofs.Counts.{counts_between}
 use Rattle.oberon_shards.proofs.PartNames.{part_inside}
@@ -45,15 +46,15 @@ unfolding sha256
 sha256_bytes bytes = digest_are_bytes _ 8
 
 -- the numbers of a shard, and its line
-few : (file : List ℕ) (s : Shard) (f : Finding) → IsFound file f s → s.last ≤ LAST_CHECKPOINT
-few file s Holds is = omega (arith, is.1.is.lawful.few, is.1.is.lawful.some, is.2.last_is)
-few file s Fails is = omega (arith, is.1.is.lawful.few, is.1.is.lawful.some, is.2.last_is)
-few file s Refused is = omega (arith, is.last_is)
+few : (v : Versions) (file : List ℕ) (s : Shard) (f : Finding) → IsFound v file f s → s.last ≤ LAST_CHECKPOINT
+few v file s Holds is = omega (arith, (lawful_in v file is.0 is.1).few, (lawful_in v file is.0 is.1).some, is.2.last_is)
+few v file s Fails is = omega (arith, (lawful_in v file is.0 is.1).few, (lawful_in v file is.0 is.1).some, is.2.last_is)
+few v file s Refused is = omega (arith, is.last_is)
 
-in_ranges : (file : List ℕ) (s : Shard) (f : Finding) → IsFound file f s → IsInRanges f s
-in_ranges file s Holds is =
+in_ranges : (v : Versions) (file : List ℕ) (s : Shard) (f : Finding) → IsFound v file f s → IsInRanges f s
+in_ranges v file s Holds is =
     let r : RecordingParts = is.0 in
-    let lawful = is.1.is.lawful in
+    let lawful = lawful_in v file r is.1 in
     let held : IsHeld r s = is.2 in
     let most : count_at r (last_of r) ≤ MAX_COUNT = (lawful.fit (last_of r) (omega (arith, lawful.some))).bounded in
     let least = counts_between r lawful 0 (last_of r) (omega arith) (omega arith) in (
@@ -66,9 +67,9 @@ in_ranges file s Holds is =
           let first : count_at r (last_of r) ≡ count_at r 0 = ap (count_at r) end in
           omega (arith, held.count_is, first, lawful.begins),
     )
-in_ranges file s Fails is =
+in_ranges v file s Fails is =
     let r : RecordingParts = is.0 in
-    let lawful = is.1.is.lawful in
+    let lawful = lawful_in v file r is.1 in
     let failed : IsFailed r s = is.2 in
     let k : ℕ = failed.failed in
     let most : count_at r (last_of r) ≤ MAX_COUNT = (lawful.fit (last_of r) (omega (arith, lawful.some))).bounded in
@@ -79,34 +80,34 @@ in_ranges file s Fails is =
       omega (arith, least, failed.to_is, failed.count_is),
       omega (arith, after, most, failed.to_is, failed.last_is, failed.count_is),
     )
-in_ranges file s Refused is = (is.from_is, is.to_is, is.last_is)
+in_ranges v file s Refused is = (is.from_is, is.to_is, is.last_is)
 
-line_is : (file : List ℕ) (s : Shard) (f : Finding) → IsFound file f s → HasLine f s.to s.last s.count s.line.items
-line_is file s Holds is = rw (is.2.last_is, is.2.count_is) is.2.line_is
-line_is file s Fails is =
+line_is : (v : Versions) (file : List ℕ) (s : Shard) (f : Finding) → IsFound v file f s → HasLine f s.to s.last s.count s.line.items
+line_is v file s Holds is = rw (is.2.last_is, is.2.count_is) is.2.line_is
+line_is v file s Fails is =
     let r : RecordingParts = is.0 in
     let failed : IsFailed r s = is.2 in (
       failed.part,
       part_inside (claimed r (failed.failed + 1)) (replayed r failed.failed) failed.part failed.fails,
       rw (failed.to_is, failed.count_is) failed.line_is,
     )
-line_is file s Refused is =
-    let named : IsNamedFault is.fault = subst (λ (o : Option Fault). IfSome o IsNamedFault) is.is_first (fault_named file) in
+line_is v file s Refused is =
+    let named : IsNamedFault is.fault = subst (λ (o : Option Fault). IfSome o IsNamedFault) is.is_first (named_in v file) in
     (is.fault, named, sym is.count_is, is.line_is)
 
-pub printable : (file : List ℕ) (s : Shard) → IsShardOf file s → IsPrintable s
-printable file s is = record {
+pub printable : (v : Versions) (file : List ℕ) (s : Shard) → IsShardIn v file s → IsPrintable s
+printable v file s is = record {
   digest_length = ap length is.digest_is ∙ length-sha256 file;
   digest_bytes = subst IsBytes (sym is.digest_is) (sha256_bytes file);
-  few = few file s s.finding is.found;
+  few = few v file s s.finding is.found;
   count_fits = is.count_fits;
-  in_ranges = in_ranges file s s.finding is.found;
-  line = line_is file s s.finding is.found;
+  in_ranges = in_ranges v file s s.finding is.found;
+  line = line_is v file s s.finding is.found;
 }
 
 -- shards with the same parts are of the same files
-found_same : (file : List ℕ) (s t : Shard) (f : Finding) → IsSame s t → IsFound file f s → IsFound file f t
-found_same file s t Holds same is = (
+found_same : (v : Versions) (file : List ℕ) (s t : Shard) (f : Finding) → IsSame s t → IsFound v file f s → IsFound v file f t
+found_same v file s t Holds same is = (
   is.0,
   is.1,
   record {
@@ -118,7 +119,7 @@ found_same file s t Holds same is = (
     line_is = same.line_is ∙ is.2.line_is;
   },
 )
-found_same file s t Fails same is = (
+found_same v file s t Fails same is = (
   is.0,
   is.1,
   record {
@@ -134,7 +135,7 @@ found_same file s t Fails same is = (
     line_is = same.line_is ∙ is.2.line_is;
   },
 )
-found_same file s t Refused same is = record {
+found_same v file s t Refused same is = record {
   fault = is.fault;
   is_first = is.is_first;
   from_is = same.from_is ∙ is.from_is;
@@ -144,10 +145,10 @@ found_same file s t Refused same is = record {
   line_is = same.line_is ∙ is.line_is;
 }
 
-pub same_shard : (file : List ℕ) (s t : Shard) → IsSame s t → IsShardOf file s → IsShardOf file t
-same_shard file s t same is = record {
+pub same_shard : (v : Versions) (file : List ℕ) (s t : Shard) → IsSame s t → IsShardIn v file s → IsShardIn v file t
+same_shard v file s t same is = record {
   are_bytes = is.are_bytes;
   digest_is = same.digest_is ∙ is.digest_is;
   count_fits = rw same.count_is is.count_fits;
-  found = subst (λ (f : Finding). IsFound file f t) (sym same.finding_is) (found_same file s t s.finding same is.found);
+  found = subst (λ (f : Finding). IsFound v file f t) (sym same.finding_is) (found_same v file s t s.finding same is.found);
 }

@@ -1,7 +1,9 @@
 -- Which segments a shard has: each shard begins where the one before it ends, and they have about as many instructions each.
 use Rattle.std.specs.Prelude.{ℕ, ◌≡◌, ◌-◌, ◌*◌, ◌<◌, ◌≤◌, List}
 use Rattle.oberon_format.specs.Recording.{RecordingParts, count_at, last_of}
-use Rattle.oberon_format.specs.Text.{Text}
+use Rattle.oberon_check.specs.declared.versions.Versions.{Versions}
+use Rattle.oberon_check.specs.declared.versions.Versions.TheVariants.{WithoutDisk}
+use Rattle.oberon_check.specs.Versions.{TextIn}
 use Rattle.oberon_shards.specs.declared.shard.Shard.{Shard}
 use Rattle.oberon_shards.specs.declared.shard.Finding.TheVariants.{Holds, Refused}
 
@@ -20,6 +22,10 @@ pub record IsBetween (r : RecordingParts) (index of : ℕ) (s : Shard) : Type 0 
   pub to_end : s.to ≤ end
   pub to_is : s.finding ≡ Holds → s.to ≡ end
 
--- this is shard `index` of `of` of these bytes, if they are a recording
+-- this is shard `index` of `of` of these bytes, if they are a recording in one of these versions
+abbrev pub IsIndexedIn : Versions → List ℕ → ℕ → ℕ → Shard → Type 0
+IsIndexedIn versions bytes index of s = ¬ (s.finding ≡ Refused) → (r : RecordingParts) → TextIn versions bytes r → IsBetween r index of s
+
+-- the same of a file without a disk
 abbrev pub IsIndexed : List ℕ → ℕ → ℕ → Shard → Type 0
-IsIndexed bytes index of s = ¬ (s.finding ≡ Refused) → (r : RecordingParts) → Text bytes r → IsBetween r index of s
+IsIndexed = IsIndexedIn WithoutDisk

@@ -1,27 +1,34 @@
 -- What `combine` prints for a text: the main theorem of the check in shards.
 use Rattle.std.specs.Prelude.{ℕ, ◌≡◌, ◌+◌, ◌⊎◌, ◌<◌, ◌≤◌, List, ◌++◌, All, codes, length}
 use Rattle.std.specs.Fmt.{decimal}
-use Rattle.oberon_check.specs.Headline.{IsLineOf}
+use Rattle.oberon_check.specs.declared.versions.Versions.{Versions}
+use Rattle.oberon_check.specs.declared.versions.Versions.TheVariants.{WithoutDisk}
+use Rattle.oberon_check.specs.HeadlineWithDisk.{IsLineIn}
 use Rattle.oberon_shards.specs.declared.shard.Shard.{Shard}
 use Rattle.oberon_shards.specs.declared.fault.CombineFault.{CombineFault}
 use Rattle.oberon_shards.specs.declared.fault.CombineFault.TheVariants.{Long, Syntax, Empty, OtherFile, Contradiction, Missing}
 use Rattle.oberon_shards.specs.declared.fault.TheConstants.{LONGEST_SHARDS}
 use Rattle.oberon_shards.specs.Shard.{finding_status, shard_line}
-use Rattle.oberon_shards.specs.Border.{IsIndexed}
-use Rattle.oberon_shards.specs.Shard.{IsShardOf}
-use Rattle.oberon_shards.specs.Lines.{AreLinesOf, HasNoShard, IsPrintable, shard_lines}
+use Rattle.oberon_shards.specs.Border.{IsIndexedIn}
+use Rattle.oberon_shards.specs.Shard.{IsShardIn}
+use Rattle.oberon_shards.specs.Lines.{AreLinesIn, HasNoShard, IsPrintable, shard_lines}
 use Rattle.oberon_shards.specs.Combining.{AllAgree, IsCombineFault, IsOneOf}
 
--- the line of shard `index` of `of` of these bytes. The status is 0 whatever was found: the line says it
-pub record IsShardReport (bytes : List ℕ) (index of : ℕ) (line : List ℕ) (status : ℕ) : Type 0 where
+-- the line of shard `index` of `of` of these bytes in these versions. The status is 0 whatever was found: the line says it
+pub record IsShardReportIn (versions : Versions) (bytes : List ℕ) (index of : ℕ) (line : List ℕ) (status : ℕ) : Type 0 where
   pub shard : Shard
-  pub is_shard : IsShardOf bytes shard
-  pub is_indexed : IsIndexed bytes index of shard
+  pub is_shard : IsShardIn versions bytes shard
+  pub is_indexed : IsIndexedIn versions bytes index of shard
   pub line_is : line ≡ shard_line shard
   pub status_is : status ≡ 0
 
--- the text has lines that the program can print, of which no two contradict each other, and one of them decides: if the lines are those of shards of a file, in whatever order, by whichever
--- machines and however divided, then the line and the status are those of a check of this file
+-- the same of a file without a disk
+abbrev pub IsShardReport : List ℕ → ℕ → ℕ → List ℕ → ℕ → Type 0
+IsShardReport = IsShardReportIn WithoutDisk
+
+-- the text has lines that the program can print, of which no two contradict each other, and one of them decides: if the lines are those of
+-- shards of a file, in whatever order, by whichever machines and however divided, then the line and the status are those of a check of
+-- this file, with a disk if all lines are of a check with one
 pub record IsCombined (text line : List ℕ) (status : ℕ) : Type 0 where
   pub short : length text ≤ LONGEST_SHARDS
   pub shards : List Shard
@@ -31,7 +38,7 @@ pub record IsCombined (text line : List ℕ) (status : ℕ) : Type 0 where
   pub shard : Shard
   pub is_one : IsOneOf shards shard
   pub one_file : All (λ s. s.digest ≡ shard.digest) shards
-  pub decides : (file : List ℕ) → AreLinesOf file text → IsLineOf file line status
+  pub decides : (versions : Versions) (file : List ℕ) → AreLinesIn versions file text → IsLineIn versions file line status
   pub line_is : line ≡ shard.line.items
   pub status_is : status ≡ finding_status shard.finding
 
@@ -43,7 +50,7 @@ pub record IsBroken (text : List ℕ) (line : ℕ) : Type 0 where
   pub lines_are : text ≡ shard_lines shards ++ rest
   pub line_is : line ≡ length shards + 1
   pub broken : HasNoShard rest
-  pub none : (file : List ℕ) → ¬ (AreLinesOf file text)
+  pub none : (versions : Versions) (file : List ℕ) → ¬ (AreLinesIn versions file text)
 
 -- the text has lines that the program can print, whose shards have this fault
 pub record AreFaulty (text : List ℕ) (fault : CombineFault) : Type 0 where

@@ -1,20 +1,24 @@
 -- What shards combine to.
 use Rattle.std.specs.Prelude.{ℕ, ◌≡◌, ◌+◌, ◌-◌, ◌<◌, ◌≤◌, List, All, length, slice_index_or}
-use Rattle.oberon_check.specs.Headline.{IsLineOf}
+use Rattle.oberon_check.specs.declared.versions.Versions.{Versions}
+use Rattle.oberon_check.specs.HeadlineWithDisk.{IsLineIn}
 use Rattle.oberon_shards.specs.declared.shard.Shard.{Shard}
 use Rattle.oberon_shards.specs.declared.shard.Finding.{Finding}
 use Rattle.oberon_shards.specs.declared.shard.Finding.TheVariants.{Holds, Fails, Refused}
 use Rattle.oberon_shards.specs.declared.fault.CombineFault.{CombineFault}
 use Rattle.oberon_shards.specs.declared.fault.CombineFault.TheVariants.{Long, Syntax, Empty, OtherFile, Contradiction, Missing}
-use Rattle.oberon_shards.specs.Shard.{IsShardOf, finding_status}
+use Rattle.oberon_shards.specs.Shard.{IsShardIn, finding_status}
 
 -- this is a member of the list
 abbrev pub IsOneOf : List Shard → Shard → Type 0
 IsOneOf shards s = (k : ℕ) × (k < length shards) × (s ≡ slice_index_or shards k s)
 
--- this shard decides: if all are true of some bytes, its line and its status are the line and the status of a check of these bytes
+-- this shard decides: if all are true of some bytes, its line and its status are the line and the status of a check of these bytes, with a
+-- disk if all shards are of a check with one
 abbrev pub Decides : List Shard → Shard → Type 0
-Decides shards s = (bytes : List ℕ) → All (IsShardOf bytes) shards → IsLineOf bytes s.line.items (finding_status s.finding)
+Decides shards s =
+    (versions : Versions) (bytes : List ℕ) → All (IsShardIn versions bytes) shards
+    → IsLineIn versions bytes s.line.items (finding_status s.finding)
 
 -- a shard that holds has this segment
 pub record IsCovered (shards : List Shard) (segment : ℕ) : Type 0 where
@@ -37,7 +41,7 @@ pub record IsOther (shards : List Shard) (k : ℕ) : Type 0 where
 
 -- no file has both shards
 abbrev pub AreApart : Shard → Shard → Type 0
-AreApart a b = (file : List ℕ) → IsShardOf file a → ¬ (IsShardOf file b)
+AreApart a b = (versions : Versions) (file : List ℕ) → IsShardIn versions file a → ¬ (IsShardIn versions file b)
 
 -- the counts of two checkpoints, the second of which is not before the first: each is at least one more than that of the one before
 abbrev pub Rise : ℕ → ℕ → ℕ → ℕ → Type 0

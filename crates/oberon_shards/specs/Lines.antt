@@ -8,20 +8,21 @@ use Rattle.oberon_format.specs.Line.{IsNamedFault, fault_line}
 use Rattle.oberon_check.specs.declared.part.Part.{Part}
 use Rattle.oberon_check.specs.declared.part.Part.TheVariants.{R, Page}
 use Rattle.oberon_check.specs.declared.verdict.Verdict.TheVariants.{Accepted, FalseAt}
+use Rattle.oberon_check.specs.declared.versions.Versions.{Versions}
 use Rattle.oberon_check.specs.Line.{line_of}
 use Rattle.oberon_shards.specs.declared.shard.Shard.{Shard}
 use Rattle.oberon_shards.specs.declared.shard.Finding.{Finding}
 use Rattle.oberon_shards.specs.declared.shard.Finding.TheVariants.{Holds, Fails, Refused}
-use Rattle.oberon_shards.specs.Shard.{IsShardOf, byte_of, shard_line}
+use Rattle.oberon_shards.specs.Shard.{IsShardIn, byte_of, shard_line}
 
 -- the lines of these shards
 abbrev pub shard_lines : List Shard → List ℕ
 shard_lines shards = flat_map shard_line shards
 
--- the text has lines of shards that are all true of this file, whichever they are and in whatever order
-pub record AreLinesOf (file text : List ℕ) : Type 0 where
+-- the text has lines of shards that are all true of this file in these versions, whichever they are and in whatever order
+pub record AreLinesIn (versions : Versions) (file text : List ℕ) : Type 0 where
   pub shards : List Shard
-  pub are : All (IsShardOf file) shards
+  pub are : All (IsShardIn versions file) shards
   pub lines_are : text ≡ shard_lines shards
 
 -- ---- the lines that the program prints: in their form and in their ranges, whether or not they are true of a file

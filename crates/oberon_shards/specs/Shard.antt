@@ -7,12 +7,14 @@ use Rattle.oberon_format.specs.declared.fault.Fault.{Fault}
 use Rattle.oberon_format.specs.declared.fault.Fault.TheVariants.{Short, Magic, Version, Limit, Event, Checkpoint, Page, Trailing}
 use Rattle.oberon_format.specs.declared.fault.Fault.TheVariants.{Memory}
 use Rattle.oberon_format.specs.Recording.{RecordingParts, count_at, last_of}
-use Rattle.oberon_format.specs.Text.{AreBytes, Text}
-use Rattle.oberon_format.specs.ByteFields.{first_fault_of}
+use Rattle.oberon_format.specs.Text.{AreBytes}
 use Rattle.oberon_format.specs.Line.{fault_line}
 use Rattle.oberon_check.specs.declared.part.Part.{Part}
 use Rattle.oberon_check.specs.declared.verdict.Verdict.TheVariants.{Accepted, FalseAt}
+use Rattle.oberon_check.specs.declared.versions.Versions.{Versions}
+use Rattle.oberon_check.specs.declared.versions.Versions.TheVariants.{WithoutDisk}
 use Rattle.oberon_check.specs.Segment.{IsSegmentPart}
+use Rattle.oberon_check.specs.Versions.{TextIn, first_fault_in}
 use Rattle.oberon_check.specs.Line.{line_of}
 use Rattle.oberon_shards.specs.declared.shard.Shard.{Shard}
 use Rattle.oberon_shards.specs.declared.shard.Finding.{Finding}
@@ -58,9 +60,9 @@ byte_of (Trailing byte) = byte
 byte_of Memory = 0
 
 -- the bytes have a first fault, the line is that of the fault, and there are no segments
-pub record IsFaulty (bytes : List ℕ) (s : Shard) : Type 0 where
+pub record IsFaulty (versions : Versions) (bytes : List ℕ) (s : Shard) : Type 0 where
   pub fault : Fault
-  pub is_first : first_fault_of bytes ≡ Some fault
+  pub is_first : first_fault_in versions bytes ≡ Some fault
   pub from_is : s.from ≡ 0
   pub to_is : s.to ≡ 0
   pub last_is : s.last ≡ 0
@@ -68,17 +70,22 @@ pub record IsFaulty (bytes : List ℕ) (s : Shard) : Type 0 where
   pub line_is : s.line.items ≡ fault_line fault
 
 -- what was found in the recording of the bytes, or of the bytes themselves
-abbrev pub IsFound : List ℕ → Finding → Shard → Type 0
-IsFound bytes Holds s = (r : RecordingParts) × Text bytes r × IsHeld r s
-IsFound bytes Fails s = (r : RecordingParts) × Text bytes r × IsFailed r s
-IsFound bytes Refused s = IsFaulty bytes s
+abbrev pub IsFound : Versions → List ℕ → Finding → Shard → Type 0
+IsFound versions bytes Holds s = (r : RecordingParts) × TextIn versions bytes r × IsHeld r s
+IsFound versions bytes Fails s = (r : RecordingParts) × TextIn versions bytes r × IsFailed r s
+IsFound versions bytes Refused s = IsFaulty versions bytes s
 
--- the shard has the digest of these bytes, and what it says of them is true. No machine, worker or order is mentioned
-pub record IsShardOf (bytes : List ℕ) (s : Shard) : Type 0 where
+-- the shard has the digest of these bytes, and what it says of them is true, if files may have these versions. No machine, worker or order
+-- is mentioned
+pub record IsShardIn (versions : Versions) (bytes : List ℕ) (s : Shard) : Type 0 where
   pub are_bytes : AreBytes bytes
   pub digest_is : s.digest ≡ sha256 bytes
   pub count_fits : s.count < 2 ^ 64
-  pub found : IsFound bytes s.finding s
+  pub found : IsFound versions bytes s.finding s
+
+-- the same of a file without a disk
+abbrev pub IsShardOf : List ℕ → Shard → Type 0
+IsShardOf = IsShardIn WithoutDisk
 
 -- the exit status of a check that this finding decides: 0 holds, 1 fails, 2 refused
 abbrev pub finding_status : Finding → ℕ

@@ -6,7 +6,7 @@ ghost use Rattle.oberon_shards.specs.declared.shard.Finding.{Finding};
 
 use crate::fault::CombineFault;
 use crate::shard::{Finding, Shard};
-use oberon_format::{file_or_fault_law, one_recording_law};
+use oberon_format::{file_or_fault_law, file_or_fault_with_disk_law, one_recording_with_disk_law};
 
 /// No shard has this index.
 const NO_SHARD: usize = usize::MAX;
@@ -63,8 +63,9 @@ fn contradict(a: &Shard, b: &Shard) -> bool
     ensures apart { IsTrue result → AreApart a.now b.now }
     ensures agree { ¬ (IsTrue result) → Agree a.now b.now }
 {
-    one_recording_law();
+    one_recording_with_disk_law();
     file_or_fault_law();
+    file_or_fault_with_disk_law();
     if a.last != b.last {
         return true;
     }
@@ -95,7 +96,7 @@ fn fails_there(a: &Shard, b: &Shard) -> bool
     ensures apart { IsTrue result → AreApart a.now b.now }
     ensures agree { ¬ (IsTrue result) → AgreeAs Finding.Fails Finding.Holds a.now b.now }
 {
-    one_recording_law();
+    one_recording_with_disk_law();
     if b.from < a.to && a.to <= b.to {
         return true;
     }
@@ -109,7 +110,7 @@ fn fail_apart(a: &Shard, b: &Shard) -> bool
     ensures apart { IsTrue result → AreApart a.now b.now }
     ensures agree { ¬ (IsTrue result) → AgreeAs Finding.Fails Finding.Fails a.now b.now }
 {
-    one_recording_law();
+    one_recording_with_disk_law();
     if a.to == b.to {
         return a.line != b.line;
     }
@@ -199,7 +200,7 @@ pub fn combine<'a>(shards: &'a [Shard]) -> Result<&'a Shard, CombineFault>
     ensures agree { IfOk result (λ s. AllAgree shards.now) }
     ensures fault { IfErr result (IsCombineFault shards.now) }
 {
-    one_recording_law();
+    one_recording_with_disk_law();
     if shards.is_empty() {
         return Err(CombineFault::Empty);
     }

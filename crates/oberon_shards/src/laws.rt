@@ -1,7 +1,7 @@
 //! The laws of this crate's definitions, each the contract of a function that does nothing.
 ghost use Rattle.oberon_shards.specs.Laws.{HasOneReading, HasShardLimits, IsComplete, IsOfOneFile};
 
-use oberon_format::{file_or_fault_law, one_recording_law};
+use oberon_format::{file_or_fault_law, file_or_fault_with_disk_law, one_recording_with_disk_law};
 
 /// States the limits of shards.
 pub fn shard_limits_law()
@@ -12,8 +12,9 @@ pub fn shard_limits_law()
 pub fn complete_law()
     ensures { IsComplete }
 {
-    one_recording_law();
+    one_recording_with_disk_law();
     file_or_fault_law();
+    file_or_fault_with_disk_law();
 }
 
 /// A line of a shard has one reading.

@@ -18,6 +18,6 @@ pub use border::MAX_SHARDS;
 pub use combining::combine;
 pub use fault::{CombineFault, LONGEST_SHARDS};
 pub use laws::{complete_law, one_file_law, reading_law, shard_limits_law};
-pub use report::{combine_lines, shard_line};
+pub use report::{combine_lines, shard_line, shard_line_in};
 pub use shard::{Finding, Shard};
-pub use sharding::check_shard;
+pub use sharding::{check_shard, check_shard_in};

@@ -1,13 +1,13 @@
 //! What the program prints: the line of a shard, and what lines of shards combine to.
 ghost use Rattle.std.specs.Prelude.{◌≡◌, ◌≤◌, ◌<◌, IfOk, length};
-ghost use Rattle.oberon_shards.specs.Combination.{IsCombination, IsShardReport, IsTextFault, combine_fault_line};
+ghost use Rattle.oberon_shards.specs.Combination.{IsCombination, IsShardReport, IsShardReportIn, IsTextFault, combine_fault_line};
 
 use crate::border::MAX_SHARDS;
 use crate::combining::combine;
 use crate::fault::{CombineFault, LONGEST_SHARDS};
 use crate::reading::read_shards;
-use crate::sharding::check_shard;
-use oberon_check::Report;
+use crate::sharding::check_shard_in;
+use oberon_check::{Report, Versions};
 use std::alloc::{AllocError, Global};
 
 /// Returns the line of shard `index` of `of` of the bytes of a recording file, with the status 0: an engine must not repeat a true
@@ -16,7 +16,21 @@ pub fn shard_line(alloc: Global, bytes: &[u8], index: u32, of: u32) -> Result<Re
     requires { (1 ≤ index) × (index ≤ of) × (of ≤ MAX_SHARDS) }
     ensures { IfOk result (λ report. IsShardReport bytes.now index of report.line.items report.status) }
 {
-    let shard = check_shard(alloc, bytes, index, of)?;
+    shard_line_in(alloc, Versions::WithoutDisk, bytes, index, of)
+}
+
+/// Returns that line for a file in one of these versions.
+pub fn shard_line_in(
+    alloc: Global,
+    versions: Versions,
+    bytes: &[u8],
+    index: u32,
+    of: u32,
+) -> Result<Report, AllocError>
+    requires { (1 ≤ index) × (index ≤ of) × (of ≤ MAX_SHARDS) }
+    ensures { IfOk result (λ report. IsShardReportIn versions bytes.now index of report.line.items report.status) }
+{
+    let shard = check_shard_in(alloc, versions, bytes, index, of)?;
     Ok(Report {
         line: shard.text(alloc)?,
         status: 0,

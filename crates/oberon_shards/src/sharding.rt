@@ -1,14 +1,14 @@
 //! One shard of a check: its segments are replayed one after another, up to the first that fails.
 ghost use Rattle.std.specs.Prelude.{◌≡◌, ◌≢◌, ◌+◌, ◌<◌, ◌≤◌, IfOk, MatchOption};
 ghost use Rattle.oberon_format.specs.Recording.{last_of};
-ghost use Rattle.oberon_shards.specs.Border.{IsIndexed};
-ghost use Rattle.oberon_shards.specs.Shard.{Hold, IsShardOf, byte_of};
+ghost use Rattle.oberon_shards.specs.Border.{IsIndexed, IsIndexedIn};
+ghost use Rattle.oberon_shards.specs.Shard.{Hold, IsShardIn, IsShardOf, byte_of};
 ghost use Rattle.oberon_shards.specs.inner.Stretch.{IsFirstFailed, IsStretch, IsFault};
 
 use crate::border::{MAX_SHARDS, border};
 use crate::shard::{Finding, Shard};
-use oberon_check::{Part, Verdict, replay_segment};
-use oberon_format::{Fault, Recording, one_recording_law, read, refusal};
+use oberon_check::{Part, Verdict, Versions, replay_segment};
+use oberon_format::{Fault, Recording, one_recording_with_disk_law, refusal};
 use sha2::{Digest, Sha256};
 use std::alloc::{AllocError, Global};
 
@@ -21,9 +21,25 @@ pub fn check_shard(alloc: Global, bytes: &[u8], index: u32, of: u32) -> Result<S
     ensures shard { IfOk result (IsShardOf bytes.now) }
     ensures indexed { IfOk result (IsIndexed bytes.now index of) }
 {
-    one_recording_law();
+    check_shard_in(alloc, Versions::WithoutDisk, bytes, index, of)
+}
+
+/// Checks shard `index` of `of` of the bytes of a recording file in one of these versions, as `check_shard` does for those of versions 1
+/// and 2.
+pub fn check_shard_in(
+    alloc: Global,
+    versions: Versions,
+    bytes: &[u8],
+    index: u32,
+    of: u32,
+) -> Result<Shard, AllocError>
+    requires { (1 ≤ index) × (index ≤ of) × (of ≤ MAX_SHARDS) }
+    ensures shard { IfOk result (IsShardIn versions bytes.now) }
+    ensures indexed { IfOk result (IsIndexedIn versions bytes.now index of) }
+{
+    one_recording_with_disk_law();
     let digest = Sha256::digest(bytes);
-    match read(alloc, bytes) {
+    match versions.read(alloc, bytes) {
         Ok(r) => {
             let from = border(&r, index - 1, of);
             let end = border(&r, index, of);

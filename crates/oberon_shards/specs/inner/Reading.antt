@@ -8,10 +8,11 @@ use Rattle.oberon_format.specs.declared.fault.Fault.TheVariants.{Memory}
 use Rattle.oberon_check.specs.declared.part.Part.{Part}
 use Rattle.oberon_check.specs.declared.part.Part.TheVariants.{R, H, Pc, Flags, Stop, Timer, Rate, Phase, Switches, Leds, Mouse}
 use Rattle.oberon_check.specs.declared.part.Part.TheVariants.{Serial, Keys, Disk, Sent, Page as PageOf}
+use Rattle.oberon_check.specs.declared.versions.Versions.{Versions}
 use Rattle.oberon_shards.specs.declared.shard.Finding.{Finding}
 use Rattle.oberon_shards.specs.declared.shard.Shard.{Shard}
-use Rattle.oberon_shards.specs.Shard.{IsShardOf, shard_line}
-use Rattle.oberon_shards.specs.Lines.{AreLinesOf, HasLine, HasNoShard, IsPrintable, IsSame, shard_lines}
+use Rattle.oberon_shards.specs.Shard.{IsShardIn, shard_line}
+use Rattle.oberon_shards.specs.Lines.{AreLinesIn, HasLine, HasNoShard, IsPrintable, IsSame, shard_lines}
 
 -- if the text is one without this byte, then the byte and more, these are the two
 abbrev pub IsCut : ℕ → List ℕ → List ℕ → List ℕ → Type 0
@@ -82,7 +83,7 @@ pub record IsNext (text : List ℕ) (shard : Shard) (rest : List ℕ) : Type 0 w
 pub record IsReadTo (text : List ℕ) (shards : List Shard) (rest : List ℕ) : Type 0 where
   pub lines_are : text ≡ shard_lines shards ++ rest
   pub printable : All IsPrintable shards
-  pub are : (file : List ℕ) → AreLinesOf file text → All (IsShardOf file) shards × AreLinesOf file rest
+  pub are : (versions : Versions) (file : List ℕ) → AreLinesIn versions file text → All (IsShardIn versions file) shards × AreLinesIn versions file rest
 
 -- and the rest does not begin with the line of a shard
 abbrev pub AreRead : List ℕ → List Shard → List ℕ → Type 0

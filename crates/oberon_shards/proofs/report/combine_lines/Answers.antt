@@ -51,7 +51,7 @@ returns-in-Ok c =
       shard = c.in-Ok.shard.now;
       is_one = subst (λ (xs : List Shard). IsOneOf xs c.in-Ok.shard.now) c.deref.ensures.value c.in-Ok.ensures.one;
       one_file = subst (λ (xs : List Shard). All (λ s. s.digest ≡ c.in-Ok.shard.now.digest) xs) c.deref.ensures.value c.in-Ok.ensures.one_file;
-      decides = λ file of. rw (line, c.status.ensures) (decides file (read.are file of).0);
+      decides = λ v file of. rw (line, c.status.ensures) (decides v file (read.are v file of).0);
       line_is = line;
       status_is = c.status.ensures;
     })
