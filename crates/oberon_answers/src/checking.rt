@@ -3,6 +3,7 @@ ghost use Rattle.std.specs.Prelude.{◌≡◌, ◌+◌, ◌<◌, IfOk, IsSome, I
 ghost use Rattle.oberon_format.specs.Recording.{last_of};
 ghost use Rattle.oberon_check.specs.Collecting.{IsCollectFault, part_at};
 ghost use Rattle.oberon_check.specs.Headline.{IsLineOf};
+ghost use Rattle.oberon_check.specs.HeadlineWithDisk.{IsLineIn};
 ghost use Rattle.oberon_check.specs.Verdict.{IsVerdict};
 ghost use Rattle.oberon_check.specs.declared.collector.CollectFault.{CollectFault};
 ghost use Rattle.oberon_answers.specs.inner.Answering.{IsVerdictAnswer};
@@ -10,8 +11,8 @@ ghost use Rattle.oberon_answers.specs.inner.Replaying.{AreFirst};
 
 use crate::answer::{Answer, refused};
 use crate::lengths::verdict_fits;
-use oberon_check::{SegmentVerdict, Verdict, collect, replay_segment};
-use oberon_format::{Fault, Recording, read};
+use oberon_check::{SegmentVerdict, Verdict, Versions, collect, replay_segment};
+use oberon_format::{Fault, Recording};
 use std::alloc::{AllocError, Global};
 
 /// Returns the line and the status of the check of these bytes: those of `oberon_check::check_bytes`. The line has fewer than 256
@@ -20,7 +21,15 @@ pub fn check(alloc: Global, bytes: &[u8]) -> Result<Answer, AllocError>
     ensures line { IfOk result (λ answer. IsLineOf bytes.now answer.bytes.items answer.status) }
     ensures short { IfOk result (λ answer. length answer.bytes.items < 256) }
 {
-    match read(alloc, bytes) {
+    check_in(alloc, Versions::WithoutDisk, bytes)
+}
+
+/// Returns the line and the status of the check of these bytes in one of these versions: those of `oberon_check::check_bytes_in`.
+pub fn check_in(alloc: Global, versions: Versions, bytes: &[u8]) -> Result<Answer, AllocError>
+    ensures line { IfOk result (λ answer. IsLineIn versions bytes.now answer.bytes.items answer.status) }
+    ensures short { IfOk result (λ answer. length answer.bytes.items < 256) }
+{
+    match versions.read(alloc, bytes) {
         Ok(r) => answer_of(alloc, &r),
         Err(Fault::Memory) => Err(AllocError),
         Err(fault) => refused(alloc, &fault),

@@ -1,10 +1,11 @@
 //! The screen that a checkpoint claims. The recording is not replayed.
 ghost use Rattle.std.specs.Prelude.{◌≡◌, ◌<◌, length, IfOk};
 ghost use Rattle.risc_devices.specs.Picture.{IsPicture};
-ghost use Rattle.oberon_answers.specs.Screen.{IsScreen, IsScreenOf, display_of, missing_line};
+ghost use Rattle.oberon_answers.specs.Screen.{IsScreen, IsScreenIn, IsScreenOf, display_of, missing_line};
 
 use crate::answer::{Answer, refused};
-use oberon_format::{Fault, Recording, read};
+use oberon_check::Versions;
+use oberon_format::{Fault, Recording};
 use risc_devices::picture;
 use risc_pages::Memory;
 use std::alloc::{AllocError, Global};
@@ -22,7 +23,19 @@ const DISPLAY_WORDS: u32 = 24_576;
 pub fn screen(alloc: Global, bytes: &[u8], at: u32) -> Result<Answer, AllocError>
     ensures { IfOk result (λ answer. IsScreen at bytes.now answer.bytes.items answer.status) }
 {
-    match read(alloc, bytes) {
+    screen_in(alloc, Versions::WithoutDisk, bytes, at)
+}
+
+/// Returns that picture of a recording in one of these versions.
+pub fn screen_in(
+    alloc: Global,
+    versions: Versions,
+    bytes: &[u8],
+    at: u32,
+) -> Result<Answer, AllocError>
+    ensures { IfOk result (λ answer. IsScreenIn versions at bytes.now answer.bytes.items answer.status) }
+{
+    match versions.read(alloc, bytes) {
         Ok(recording) => screen_of(alloc, &recording, at),
         Err(Fault::Memory) => Err(AllocError),
         Err(fault) => refused(alloc, &fault),

@@ -2,23 +2,23 @@
 use Rattle.std.proofs.Common.{◌≡◌, ◌<◌, ◌≤◌, ◌∙◌, ◌+◌, ℕ, List, arith, ap, sym, inl, inr, length, take}
 use Rattle.std.proofs.lemmas.Bool.{cases_lt}
 use Rattle.std.proofs.lemmas.List.{take_all}
-use Rattle.oberon_check.specs.Headline.{IsLineOf}
-use Rattle.oberon_format.specs.declared.layout.TheConstants.{LONGEST_RECORDING}
-use Rattle.oberon_shards.specs.Combination.{IsCombination, IsShardReport}
-use Rattle.oberon_cli.specs.Answer.{IsAnswer}
+use Rattle.oberon_check.specs.declared.versions.Versions.{Versions}
+use Rattle.oberon_check.specs.HeadlineWithDisk.{IsLineIn}
+use Rattle.oberon_shards.specs.Combination.{IsCombination, IsShardReportIn}
+use Rattle.oberon_cli.specs.Answer.{IsAnswer, longest_in}
 use Rattle.oberon_cli.specs.declared.arguments.Request.{Request}
 use Rattle.oberon_cli.specs.declared.arguments.Request.TheVariants.{Check, Combine, Shard}
 
-pub check_answer : (request : Request) (workers cut : ℕ) (input text : List ℕ) (own status : ℕ) → request ≡ Check workers cut → IsLineOf input text own
-    → status ≡ own → IsAnswer request input text status
-check_answer request workers cut input text own status is line same = rw (is, same) line
+pub check_answer : (request : Request) (versions : Versions) (workers cut : ℕ) (input text : List ℕ) (own status : ℕ) → request ≡ Check versions workers cut
+    → IsLineIn versions input text own → status ≡ own → IsAnswer request input text status
+check_answer request versions workers cut input text own status is line same = rw (is, same) line
 
 pub combine_answer : (request : Request) (input text : List ℕ) (status : ℕ) → request ≡ Combine → IsCombination input text status → IsAnswer request input text status
 combine_answer request input text status is line = rw is line
 
-pub shard_answer : (request : Request) (index of : ℕ) (input text : List ℕ) (status : ℕ) → request ≡ Shard index of
-    → IsShardReport (take (LONGEST_RECORDING + 1) input) index of text status → IsAnswer request input text status
-shard_answer request index of input text status is line = rw is line
+pub shard_answer : (request : Request) (versions : Versions) (index of : ℕ) (input text : List ℕ) (status : ℕ) → request ≡ Shard versions index of
+    → IsShardReportIn versions (take (longest_in versions + 1) input) index of text status → IsAnswer request input text status
+shard_answer request versions index of input text status is line = rw is line
 
 -- the first k bytes are the first n, or all
 pub first_bytes : (k n : ℕ) (bytes : List ℕ) → k ≤ n → (k < n → length bytes ≤ k) → take k bytes ≡ take n bytes

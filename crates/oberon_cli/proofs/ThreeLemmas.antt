@@ -3,7 +3,9 @@ use Rattle.std.proofs.Common.{◌≡◌, ◌<◌, ◌⊎◌, inl, inr, ℕ, fals
 use Rattle.clap.specs.Walk.{Text}
 use Rattle.oberon_format.specs.Recording.{RecordingParts}
 use Rattle.oberon_session.specs.SessionParts.{SessionParts}
-use Rattle.oberon_check.specs.Headline.{IsLineOf}
+use Rattle.oberon_check.specs.declared.versions.Versions.{Versions}
+use Rattle.oberon_check.specs.HeadlineWithDisk.{IsLineIn, IsLineOfFaultIn}
+use Rattle.oberon_check.proofs.InVersions.{by-fault, by-line}
 use Rattle.oberon_check.specs.Line.{status_of}
 use Rattle.oberon_check.specs.declared.verdict.Verdict.{Verdict}
 use Rattle.oberon_check.specs.declared.verdict.Verdict.TheVariants.{Accepted, FalseAt}
@@ -13,10 +15,10 @@ use Rattle.oberon_shards.specs.declared.shard.Finding.{Finding}
 use Rattle.oberon_shards.specs.declared.shard.Finding.TheVariants as finding
 use Rattle.oberon_cli.specs.Answer.{IsAnswer}
 use Rattle.oberon_cli.specs.Transfer.{Known, Fails, GainsWhole, Goes}
-use Rattle.oberon_answers.specs.Migrate.{IsMigration}
-use Rattle.oberon_answers.specs.Record.{IsRecord, IsRecordOf}
+use Rattle.oberon_answers.specs.Migrate.{IsMigrationIn}
+use Rattle.oberon_answers.specs.Record.{IsRecordIn, IsRecordOfIn}
 use Rattle.oberon_cli.specs.Reply.{IsReplyTo, IsSent, IsThreeForFaults, Outcome, answer, failure, failure_line, help}
-use Rattle.oberon_answers.specs.Screen.{IsScreen, IsScreenOf}
+use Rattle.oberon_answers.specs.Screen.{IsScreenIn, IsScreenOf}
 use Rattle.oberon_cli.specs.declared.arguments.Request.{Request}
 use Rattle.oberon_cli.specs.declared.arguments.Request.TheVariants.{Check, Combine, Migrate, Record, Screen, Shard}
 use Rattle.oberon_cli.specs.declared.failure.Failure.TheVariants.{Memory, Read, Words}
@@ -25,29 +27,33 @@ verdict_status : (verdict : Verdict) → status_of verdict < 3
 verdict_status (Accepted checkpoints steps) = omega arith
 verdict_status (FalseAt checkpoint count part) = omega arith
 
-line_status : (input text : List ℕ) (status : ℕ) → IsLineOf input text status → status < 3
-line_status input text status (inl is) = rw is.status_is (verdict_status is.verdict)
-line_status input text status (inr is) = omega (arith, is.status_is)
+fault_status : (v : Versions) (input text : List ℕ) (status : ℕ) → IsLineOfFaultIn v input text status → status < 3
+fault_status v input text status = by-fault v input text status (status < 3) (λ fault first line_is status_is. omega (arith, status_is))
 
-recorded_status : (session : SessionParts) (text : List ℕ) (status : ℕ) → IsRecordOf session text status → status < 3
-recorded_status session text status (inl is) = omega (arith, is.status_is)
-recorded_status session text status (inr is) = omega (arith, is.refusal.status_is)
+line_status : (v : Versions) (input text : List ℕ) (status : ℕ) → IsLineIn v input text status → status < 3
+line_status v input text status =
+    by-line v input text status (status < 3) (λ r is_text verdict is line_is status_is. rw status_is (verdict_status verdict))
+    (λ fault first line_is status_is. omega (arith, status_is))
 
-record_status : (input text : List ℕ) (status : ℕ) → IsRecord input text status → status < 3
-record_status input text status (inl is) = recorded_status is.session text status is.record_is
-record_status input text status (inr is) = omega (arith, is.refusal.status_is)
+recorded_status : (v : Versions) (session : SessionParts) (text : List ℕ) (status : ℕ) → IsRecordOfIn v session text status → status < 3
+recorded_status v session text status (inl is) = omega (arith, is.status_is)
+recorded_status v session text status (inr is) = omega (arith, is.refusal.status_is)
+
+record_status : (v : Versions) (input text : List ℕ) (status : ℕ) → IsRecordIn v input text status → status < 3
+record_status v input text status (inl is) = recorded_status v is.session text status is.record_is
+record_status v input text status (inr is) = omega (arith, is.refusal.status_is)
 
 shown_status : (r : RecordingParts) (at : ℕ) (text : List ℕ) (status : ℕ) → IsScreenOf r at text status → status < 3
 shown_status r at text status (inl is) = omega (arith, is.status_is)
 shown_status r at text status (inr is) = omega (arith, is.status_is)
 
-screen_status : (at : ℕ) (input text : List ℕ) (status : ℕ) → IsScreen at input text status → status < 3
-screen_status at input text status (inl is) = shown_status is.recording at text status is.screen
-screen_status at input text status (inr is) = omega (arith, is.status_is)
+screen_status : (v : Versions) (at : ℕ) (input text : List ℕ) (status : ℕ) → IsScreenIn v at input text status → status < 3
+screen_status v at input text status (inl is) = shown_status is.recording at text status is.screen
+screen_status v at input text status (inr is) = fault_status v input text status is
 
-migration_status : (input text : List ℕ) (status : ℕ) → IsMigration input text status → status < 3
-migration_status input text status (inl is) = omega (arith, is.status_is)
-migration_status input text status (inr is) = omega (arith, is.status_is)
+migration_status : (v : Versions) (input text : List ℕ) (status : ℕ) → IsMigrationIn v input text status → status < 3
+migration_status v input text status (inl is) = omega (arith, is.status_is)
+migration_status v input text status (inr is) = fault_status v input text status is
 
 finding_low : (f : Finding) → finding_status f < 3
 finding_low finding.Holds = omega arith
@@ -60,12 +66,12 @@ combination_status input text status (inr is) = omega (arith, is.status_is)
 
 -- a command's own answer has another status
 answer_status : (request : Request) (input text : List ℕ) (status : ℕ) → IsAnswer request input text status → status < 3
-answer_status (Check workers cut) input text status is = line_status input text status is
-answer_status (Shard index of) input text status is = omega (arith, is.status_is)
+answer_status (Check v workers cut) input text status is = line_status v input text status is
+answer_status (Shard v index of) input text status is = omega (arith, is.status_is)
 answer_status Combine input text status is = combination_status input text status is
-answer_status Record input text status is = record_status input text status is
-answer_status (Screen at) input text status is = screen_status at input text status is
-answer_status Migrate input text status is = migration_status input text status is
+answer_status (Record v) input text status is = record_status v input text status is
+answer_status (Screen v at) input text status is = screen_status v at input text status is
+answer_status (Migrate v) input text status is = migration_status v input text status is
 
 -- if no call failed, no status is 3
 still : (old new : Known) → Goes old new → old.failed ≡ false → Fails new → ⊥

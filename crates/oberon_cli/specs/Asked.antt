@@ -9,6 +9,8 @@ use Rattle.clap.specs.Simple.{subcommand_of}
 use Rattle.clap.specs.Kinds.{IsAmong, Kinds}
 use Rattle.clap.specs.Faults.{fault_of}
 use Rattle.clap.specs.declared.error.kind.ErrorKind.TheVariants.{DisplayHelp}
+use Rattle.oberon_check.specs.declared.versions.Versions.{Versions}
+use Rattle.oberon_check.specs.declared.versions.Versions.TheVariants.{WithoutDisk, WithDisk}
 use Rattle.oberon_cli.specs.Program.{program_app}
 use Rattle.oberon_cli.specs.declared.arguments.Request.{Request}
 use Rattle.oberon_cli.specs.declared.arguments.Request.TheVariants.{Check, Combine, Migrate, Record, Screen, Shard}
@@ -25,19 +27,27 @@ whole_number low high text =
 abbrev pub number_at : ℕ → ℕ → Text → List Row → Option ℕ
 number_at low high id rows = option_and_then (whole_number low high) (one_of id rows)
 
--- shard K of N, as `K/N` says it: N from 1 to 4,096, and K from 1 to N
-abbrev pub shard_of : Text → Option Request
-shard_of text = option_and_then (λ of. option_map (λ index. Shard index of) (whole_number 1 of (before_first (λ c. c == 47) text)))
+-- the versions that a command takes, by what `clap` finds for the option `--disk`: all of them if it finds that, as the text `true`
+abbrev pub versions_by : Option Text → Versions
+versions_by (Some text) = if bytes_eq text (codes "true") then WithDisk else WithoutDisk
+versions_by None = WithoutDisk
+
+abbrev pub versions_in : List Row → Versions
+versions_in rows = versions_by (one_of (codes "disk") rows)
+
+-- K and N of shard K of N, as `K/N` says it: N from 1 to 4,096, and K from 1 to N
+abbrev pub shard_of : Text → Option (ℕ × ℕ)
+shard_of text = option_and_then (λ of. option_map (λ index. (index, of)) (whole_number 1 of (before_first (λ c. c == 47) text)))
     (whole_number 1 MAX_SHARDS (after_first (λ c. c == 47) text))
 
 -- a check with the numbers of workers and of segments in a job that `clap` finds
 abbrev pub whole_check_of : List Row → Option Request
-whole_check_of rows = option_and_then (λ workers. option_map (λ cut. Check workers cut)
+whole_check_of rows = option_and_then (λ workers. option_map (λ cut. Check (versions_in rows) workers cut)
     (number_at 1 LAST_CHECKPOINT (codes "cut") rows)) (number_at 1 MAX_WORKERS (codes "workers") rows)
 
 -- the shard that `clap` finds, or such a check if it finds none
 abbrev pub check_with : Option Text → List Row → Option Request
-check_with (Some text) rows = shard_of text
+check_with (Some text) rows = option_map (λ p. Shard (versions_in rows) p.0 p.1) (shard_of text)
 check_with None rows = whole_check_of rows
 
 -- what `check` with its options asks for
@@ -49,9 +59,9 @@ abbrev pub request_of : Text → List Row → Option Request
 request_of name rows =
     if bytes_eq name (codes "check") then check_of rows
     else if bytes_eq name (codes "combine") then Some Combine
-    else if bytes_eq name (codes "record") then Some Record
-    else if bytes_eq name (codes "screen") then option_map Screen (number_at 0 LAST_CHECKPOINT (codes "at") rows)
-    else if bytes_eq name (codes "migrate") then Some Migrate
+    else if bytes_eq name (codes "record") then Some (Record (versions_in rows))
+    else if bytes_eq name (codes "screen") then option_map (Screen (versions_in rows)) (number_at 0 LAST_CHECKPOINT (codes "at") rows)
+    else if bytes_eq name (codes "migrate") then Some (Migrate (versions_in rows))
     else None
 
 -- the kinds of fault that `clap` finds in the arguments

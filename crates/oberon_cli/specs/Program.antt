@@ -2,7 +2,7 @@
 use Rattle.std.specs.Prelude.{ℕ, List, [], ◌∷◌, pos, Some, true, codes}
 use Rattle.clap.specs.Walk.{Rule}
 use Rattle.clap.specs.Simple.{App, Shape, new_app, new_rule, new_shape, with_rule, with_subcommand}
-use Rattle.clap.specs.declared.builder.action.ArgAction.TheVariants.{Set}
+use Rattle.clap.specs.declared.builder.action.ArgAction.TheVariants.{Set, SetTrue}
 use Rattle.clap.specs.declared.builder.value_parser.ValueParser.TheVariants.{Signed}
 use Rattle.oberon_claims.specs.declared.claims.TheConstants.{MAX_WORKERS}
 use Rattle.recording_limits.specs.declared.limits.TheConstants.{LAST_CHECKPOINT}
@@ -24,25 +24,30 @@ cut_rule = record (number_rule (codes "cut")) { defaults = codes "1" ∷ []; par
 abbrev pub at_rule : Rule
 at_rule = record (number_rule (codes "at")) { required = true; parser = Some (Signed (pos 0) (pos LAST_CHECKPOINT)) }
 
--- `check`, with its three options: `--shard` takes a text, which says which of how many
+-- `--disk`, a flag
+abbrev pub disk_rule : Rule
+disk_rule = record (new_rule (codes "disk")) { long = Some (codes "disk"); action = Some SetTrue }
+
+-- `check`, with its four options: `--shard` takes a text, which says which of how many
 abbrev pub check_app : App
-check_app = with_rule (with_rule (with_rule (new_app (codes "check")) workers_rule) cut_rule) (number_rule (codes "shard"))
+check_app =
+    with_rule (with_rule (with_rule (with_rule (new_app (codes "check")) workers_rule) cut_rule) (number_rule (codes "shard"))) disk_rule
 
 -- `combine`, with none
 abbrev pub combine_app : App
 combine_app = new_app (codes "combine")
 
--- `record`, with none
+-- `record`, with one
 abbrev pub record_app : App
-record_app = new_app (codes "record")
+record_app = with_rule (new_app (codes "record")) disk_rule
 
--- `screen`, with its option
+-- `screen`, with two
 abbrev pub screen_app : App
-screen_app = with_rule (new_app (codes "screen")) at_rule
+screen_app = with_rule (with_rule (new_app (codes "screen")) at_rule) disk_rule
 
--- `migrate`, with none
+-- `migrate`, with one
 abbrev pub migrate_app : App
-migrate_app = new_app (codes "migrate")
+migrate_app = with_rule (new_app (codes "migrate")) disk_rule
 
 -- one of five commands is required, with no program name before it
 abbrev pub program_shape : Shape

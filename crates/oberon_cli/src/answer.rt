@@ -4,9 +4,9 @@ ghost use Rattle.oberon_cli.specs.Answer.{IsAnswer};
 ghost use Rattle.oberon_cli.specs.inner.Requests.{IsWithinLimits};
 
 use crate::arguments::Request;
-use oberon_answers::{Answer, migrate, record, screen};
-use oberon_check::{CheckFault, FreeGate, Report, check_bytes};
-use oberon_shards::{combine_lines, shard_line};
+use oberon_answers::{Answer, migrate_in, record_in, screen_in};
+use oberon_check::{CheckFault, FreeGate, Report, check_bytes_in};
+use oberon_shards::{combine_lines, shard_line_in};
 use std::alloc::{AllocError, Global};
 use std::sync::Wait;
 use std::thread::Threads;
@@ -22,20 +22,28 @@ pub fn answer<H: Threads + Wait + Sync>(
     ensures { IfOk result (λ answer. IsAnswer request bytes.now answer.bytes.items answer.status) }
 {
     match request {
-        Request::Check { workers, cut } => {
-            match check_bytes(rt, alloc, bytes, workers, cut, &FreeGate) {
+        Request::Check {
+            versions,
+            workers,
+            cut,
+        } => {
+            match check_bytes_in(rt, alloc, versions, bytes, workers, cut, &FreeGate) {
                 Ok(report) => Ok(reported(report)),
                 Err(CheckFault::Memory) => Err(AllocError),
             }
         }
-        Request::Shard { index, of } => {
+        Request::Shard {
+            versions,
+            index,
+            of,
+        } => {
             let input = &bytes[..bytes.len().min(request.limit())];
-            Ok(reported(shard_line(alloc, input, index, of)?))
+            Ok(reported(shard_line_in(alloc, versions, input, index, of)?))
         }
         Request::Combine => Ok(reported(combine_lines(alloc, bytes)?)),
-        Request::Record => record(alloc, bytes),
-        Request::Screen { at } => screen(alloc, bytes, at),
-        Request::Migrate => migrate(alloc, bytes),
+        Request::Record { versions } => record_in(alloc, versions, bytes),
+        Request::Screen { versions, at } => screen_in(alloc, versions, bytes, at),
+        Request::Migrate { versions } => migrate_in(alloc, versions, bytes),
     }
 }
 

@@ -1,15 +1,17 @@
 //! What the arguments of the command line ask for. The command line itself is in `command`.
-ghost use Rattle.std.specs.Prelude.{◌≡◌, ◌≤◌, ◌<◌, Some, IfSome, length, map, IfOk, IfErr, option_and_then};
+ghost use Rattle.std.specs.Prelude.{◌≡◌, ◌+◌, ◌≤◌, ◌<◌, Some, IfSome, length, map, IfOk, IfErr, option_and_then};
 ghost use Rattle.clap.specs.Words.{found_of, kind_of, rows_of, subcommand_rows_of};
 ghost use Rattle.oberon_cli.specs.inner.Requests.{IsWithinLimits, RefusedBy, refusal_by};
-ghost use Rattle.oberon_cli.specs.Asked.{check_of, request_in, number_at, request_of, whole_check_of};
+ghost use Rattle.oberon_cli.specs.Answer.{longest_in};
+ghost use Rattle.oberon_cli.specs.Asked.{check_of, request_in, number_at, request_of, versions_in, whole_check_of};
 
 use crate::choice::ShardChoice;
 use crate::command::program;
 use clap::error::ErrorKind;
 use clap::{ArgMatches, Error};
+use oberon_check::Versions;
 use oberon_claims::MAX_WORKERS;
-use oberon_format::{LAST_CHECKPOINT, LONGEST_RECORDING};
+use oberon_format::{LAST_CHECKPOINT, LONGEST_RECORDING, LONGEST_WITH_DISK};
 use oberon_session::LONGEST_SESSION;
 use oberon_shards::LONGEST_SHARDS;
 use std::alloc::{AllocError, Global};
@@ -18,27 +20,45 @@ use std::alloc::{AllocError, Global};
 /// byte.
 const RECORDING_LIMIT: usize = LONGEST_RECORDING + 1;
 
+/// One byte more than the longest recording file with a disk.
+const RECORDING_LIMIT_WITH_DISK: usize = LONGEST_WITH_DISK + 1;
+
 /// One byte more than the longest file of a session. A longer input is refused for its length alone.
 const SESSION_LIMIT: usize = LONGEST_SESSION + 1;
 
 /// One byte more than the longest text of shards' lines. A longer input is refused for its length alone.
 const SHARDS_LIMIT: usize = LONGEST_SHARDS + 1;
 
-/// What the program is to do.
+/// What the program is to do, in which versions of the file format.
 #[derive(Clone, Copy)]
 pub enum Request {
     /// Check the recording that is read: with 1 to 64 workers, in jobs of 1 to 4,096 consecutive segments.
-    Check { workers: u32, cut: u32 },
+    Check {
+        versions: Versions,
+        workers: u32,
+        cut: u32,
+    },
     /// Check a shard of the recording that is read: shard `index` of `of`, from 1, of 4,096 at most.
-    Shard { index: u32, of: u32 },
+    Shard {
+        versions: Versions,
+        index: u32,
+        of: u32,
+    },
     /// Combine the lines of shards that are read.
     Combine,
     /// Record the session that is read.
-    Record,
+    Record {
+        versions: Versions,
+    },
     /// Show the screen that a checkpoint of the recording that is read claims: checkpoint `at`, from 0 to 4,096.
-    Screen { at: u32 },
-    /// Write the recording that is read in the current version.
-    Migrate,
+    Screen {
+        versions: Versions,
+        at: u32,
+    },
+    /// Write the recording that is read in the last of the versions.
+    Migrate {
+        versions: Versions,
+    },
 }
 
 impl Request {
@@ -50,13 +70,23 @@ impl Request {
         ensures { result ≡ limit_of self }
     {
         match self {
-            Request::Check { .. }
-            | Request::Shard { .. }
-            | Request::Screen { .. }
-            | Request::Migrate => RECORDING_LIMIT,
-            Request::Record => SESSION_LIMIT,
+            Request::Check { versions, .. }
+            | Request::Shard { versions, .. }
+            | Request::Screen { versions, .. }
+            | Request::Migrate { versions } => recording_limit(versions),
+            Request::Record { .. } => SESSION_LIMIT,
             Request::Combine => SHARDS_LIMIT,
         }
+    }
+}
+
+/// Returns the most bytes that are read of a recording file in these versions.
+fn recording_limit(versions: Versions) -> usize
+    ensures { result ≡ longest_in versions + 1 }
+{
+    match versions {
+        Versions::WithoutDisk => RECORDING_LIMIT,
+        Versions::WithDisk => RECORDING_LIMIT_WITH_DISK,
     }
 }
 
@@ -127,12 +157,29 @@ fn request_of(matches: &ArgMatches<'_>) -> Option<Request>
     match name {
         "check" => check_of(inner),
         "combine" => Some(Request::Combine),
-        "record" => Some(Request::Record),
+        "record" => Some(Request::Record {
+            versions: versions_in(inner),
+        }),
         "screen" => Some(Request::Screen {
+            versions: versions_in(inner),
             at: whole_number(inner, "at", 0, LAST_CHECKPOINT)?,
         }),
-        "migrate" => Some(Request::Migrate),
+        "migrate" => Some(Request::Migrate {
+            versions: versions_in(inner),
+        }),
         _ => None,
+    }
+}
+
+/// Returns the versions that a command takes: version 3 only with `--disk`.
+fn versions_in(matches: &ArgMatches<'_>) -> Versions
+    ensures { result ≡ versions_in (rows_of (found_of matches.now)) }
+{
+    let disk = matches.get_one::<bool>("disk").unwrap_or(false);
+    if disk {
+        Versions::WithDisk
+    } else {
+        Versions::WithoutDisk
     }
 }
 
@@ -143,6 +190,7 @@ fn check_of(matches: &ArgMatches<'_>) -> Option<Request>
 {
     match matches.try_get_one::<ShardChoice>("shard") {
         Ok(Some(choice)) => Some(Request::Shard {
+            versions: versions_in(matches),
             index: choice.index,
             of: choice.of,
         }),
@@ -157,6 +205,7 @@ fn whole_check_of(matches: &ArgMatches<'_>) -> Option<Request>
     ensures limits { IfSome result IsWithinLimits }
 {
     Some(Request::Check {
+        versions: versions_in(matches),
         workers: whole_number(matches, "workers", 1, MAX_WORKERS)?,
         cut: whole_number(matches, "cut", 1, LAST_CHECKPOINT)?,
     })

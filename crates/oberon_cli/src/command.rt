@@ -3,7 +3,7 @@
 ghost use Rattle.std.specs.Prelude.{◌≡◌, IfOk, false};
 ghost use Rattle.clap.specs.Simple.{new_app};
 ghost use Rattle.clap.specs.Words.{app_of, rule_of};
-ghost use Rattle.oberon_cli.specs.Program.{at_rule, cut_rule, number_rule, workers_rule};
+ghost use Rattle.oberon_cli.specs.Program.{at_rule, cut_rule, disk_rule, number_rule, workers_rule};
 ghost use Rattle.oberon_cli.specs.Program.{check_app, combine_app, migrate_app, program_app, record_app, screen_app};
 ghost use Rattle.clap.specs.declared.builder.command.Command.TheViews.{out-Command as fields_of};
 
@@ -17,7 +17,9 @@ pub fn program<'a>(alloc: Global) -> Result<Command<'a>, AllocError>
     ensures app { IfOk result (λ command. app_of command ≡ program_app) }
 {
     let check = check(alloc)?;
+    let record = record(alloc)?;
     let screen = screen(alloc)?;
+    let migrate = migrate(alloc)?;
     Command::new(alloc, "oberon_replay")
         .bin_name("oberon_replay")?
         .about(
@@ -28,9 +30,9 @@ pub fn program<'a>(alloc: Global) -> Result<Command<'a>, AllocError>
         .subcommand_required(true)
         .subcommand(check)?
         .subcommand(combine(alloc))?
-        .subcommand(record(alloc))?
+        .subcommand(record)?
         .subcommand(screen)?
-        .subcommand(migrate(alloc))
+        .subcommand(migrate)
 }
 
 fn check<'a>(alloc: Global) -> Result<Command<'a>, AllocError>
@@ -50,7 +52,8 @@ fn check<'a>(alloc: Global) -> Result<Command<'a>, AllocError>
         "shard",
         "K/N",
         "Replay only shard K of N, with one worker, and print its line for combine",
-    ))
+    ))?
+    .arg(disk(alloc))
 }
 
 fn combine<'a>(alloc: Global) -> Command<'a>
@@ -65,9 +68,9 @@ fn combine<'a>(alloc: Global) -> Command<'a>
     )
 }
 
-fn record<'a>(alloc: Global) -> Command<'a>
-    ensures app { app_of result ≡ record_app }
-    ensures local { (fields_of result).has_globals ≡ false }
+fn record<'a>(alloc: Global) -> Result<Command<'a>, AllocError>
+    ensures app { IfOk result (λ command. app_of command ≡ record_app) }
+    ensures local { IfOk result (λ command. (fields_of command).has_globals ≡ false) }
 {
     command(
         alloc,
@@ -75,6 +78,7 @@ fn record<'a>(alloc: Global) -> Command<'a>
         "Runs the session on standard input, in JSON, and prints its recording, whose check is accepted",
         "Example:\n  oberon_replay record <face.json >face.orsr",
     )
+    .arg(disk(alloc))
 }
 
 fn screen<'a>(alloc: Global) -> Result<Command<'a>, AllocError>
@@ -87,19 +91,21 @@ fn screen<'a>(alloc: Global) -> Result<Command<'a>, AllocError>
         "Prints the screen that a checkpoint of the recording on standard input claims, as a PBM picture",
         "Example:\n  oberon_replay screen --at 1 <face.orsr >face.pbm",
     )
-    .arg(at(alloc))
+    .arg(at(alloc))?
+    .arg(disk(alloc))
 }
 
-fn migrate<'a>(alloc: Global) -> Command<'a>
-    ensures app { app_of result ≡ migrate_app }
-    ensures local { (fields_of result).has_globals ≡ false }
+fn migrate<'a>(alloc: Global) -> Result<Command<'a>, AllocError>
+    ensures app { IfOk result (λ command. app_of command ≡ migrate_app) }
+    ensures local { IfOk result (λ command. (fields_of command).has_globals ≡ false) }
 {
     command(
         alloc,
         "migrate",
-        "Prints the recording on standard input in the current version of the file format",
+        "Prints the recording on standard input in version 2 of the file format, or in version 3 with --disk",
         "Example:\n  oberon_replay migrate <old.orsr >new.orsr",
     )
+    .arg(disk(alloc))
 }
 
 /// Returns a command without options. No contract says anything about help texts.
@@ -150,6 +156,16 @@ fn at<'a>(alloc: Global) -> Arg<'a>
     )
     .required(true)
     .value_parser(value_parser!(u32).range(0..=LAST_CHECKPOINT as i64))
+}
+
+fn disk<'a>(alloc: Global) -> Arg<'a>
+    ensures rule { rule_of result ≡ disk_rule }
+    ensures local { result.global ≡ false }
+{
+    Arg::new(alloc, "disk")
+        .long("disk")
+        .help("Take version 3 of the format too, of a machine with a disk")
+        .action(ArgAction::SetTrue)
 }
 
 /// Returns an option that takes one value, with its help text; no range is set yet.

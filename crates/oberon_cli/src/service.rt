@@ -25,9 +25,11 @@ use std::thread::Threads;
 /// | `combine` | the line that lines of shards combine to; or the line of their first fault | that of `check`; 2 |
 /// | `record` | the session's recording; the line of a fault of the session; or the line of the recorder's fault | 0; 2; 2 |
 /// | `screen --at k` | the picture of the screen that checkpoint k claims; the line of a fault; or `no checkpoint k` | 0; 2; 2 |
-/// | `migrate` | the same recording in the current version; or the line of a fault | 0; 2 |
+/// | `migrate` | the same recording in version 2; or the line of a fault | 0; 2 |
 /// | a request for help | `clap`'s text | 0 |
 /// | others | `words refused` | 4 |
+///
+/// With `--disk` all but `combine` take version 3 of the file and of sessions, too, and `record` and `migrate` write version 3.
 ///
 /// `rt` is the runtime whose threads a check uses; the program waits for nothing else. The arguments are read before the input.
 /// Of the input no more than one byte beyond the longest file that the command takes is read.

@@ -20,16 +20,17 @@ use Rattle.oberon_cli.specs.Transfer.{Known}
 
 -- the numbers of a request are in their ranges
 abbrev pub IsWithinLimits : Request → Type 0
-IsWithinLimits (Check workers cut) = (1 ≤ workers) × (workers ≤ MAX_WORKERS) × (1 ≤ cut) × (cut ≤ LAST_CHECKPOINT)
-IsWithinLimits (Shard index of) = (1 ≤ index) × (index ≤ of) × (of ≤ MAX_SHARDS)
+IsWithinLimits (Check versions workers cut) = (1 ≤ workers) × (workers ≤ MAX_WORKERS) × (1 ≤ cut) × (cut ≤ LAST_CHECKPOINT)
+IsWithinLimits (Shard versions index of) = (1 ≤ index) × (index ≤ of) × (of ≤ MAX_SHARDS)
 IsWithinLimits Combine = ⊤
-IsWithinLimits Record = ⊤
-IsWithinLimits (Screen at) = at ≤ LAST_CHECKPOINT
-IsWithinLimits Migrate = ⊤
+IsWithinLimits (Record versions) = ⊤
+IsWithinLimits (Screen versions at) = at ≤ LAST_CHECKPOINT
+IsWithinLimits (Migrate versions) = ⊤
 
 -- the shard that a text chooses, or an error if it chooses none
 abbrev pub IsChoice : List ℕ → Result ShardChoice NoShard → Type 0
-IsChoice text (Ok choice) = (shard_of text ≡ Some (Shard choice.index choice.of)) × IsWithinLimits (Shard choice.index choice.of)
+IsChoice text (Ok choice) =
+    (shard_of text ≡ Some (choice.index, choice.of)) × (1 ≤ choice.index) × (choice.index ≤ choice.of) × (choice.of ≤ MAX_SHARDS)
 IsChoice text (Err why) = shard_of text ≡ None
 
 -- the refusal that an error of `clap` means

@@ -4,22 +4,23 @@ use Rattle.std.proofs.lemmas.Result.{IfOk-weaker}
 use Rattle.oberon_format.specs.Defined.{IsTrueAt}
 use Rattle.oberon_format.specs.Recording.{RecordingParts}
 use Rattle.oberon_format.specs.Text.{IsEncoding}
-use Rattle.oberon_format.specs.declared.layout.TheConstants.{VERSION}
-use Rattle.oberon_check.proofs.Accepting.{accepted}
+use Rattle.oberon_check.specs.Versions.{last_version}
+use Rattle.oberon_check.proofs.Accepting.{accepted-text}
+use Rattle.oberon_check.proofs.InVersions.{last_text}
 use Rattle.oberon_session.specs.FaultNames.{record_fault_number}
 use Rattle.oberon_session.specs.Recorded.{recording_of}
 use Rattle.oberon_answers.proofs.recording.record_of.Goals as goal
 
 pub returns-in_ok-bytes-in-Ok : goal.returns-in_ok-bytes-in-Ok
 returns-in_ok-bytes-in-Ok c =
+    let v = c.args.versions in
     let made = c.in-Ok.ensures in
     let bytes = c.in_ok-bytes-in-Ok.bytes.items in
-    let session = c.args.session.now in
-    let file : IsEncoding VERSION bytes (recording_of session) =
-    subst (λ (r : RecordingParts). IsEncoding VERSION bytes r) made.recording c.in_ok-bytes-in-Ok.ensures in
-    let truth : (k : ℕ) → k < length (recording_of session).checkpoints → IsTrueAt (recording_of session) k =
-    subst (λ (r : RecordingParts). (k : ℕ) → k < length r.checkpoints → IsTrueAt r k) made.recording made.truth in
-    inl (record { no_fault = made.made; output_is = file; accepted = accepted (recording_of session) bytes file truth; status_is = refl })
+    let r : RecordingParts = recording_of c.args.session.now in
+    let file : IsEncoding (last_version v) bytes r = subst (λ (q : RecordingParts). IsEncoding (last_version v) bytes q) made.recording c.in_ok-bytes-in-Ok.ensures in
+    let truth : (k : ℕ) → k < length r.checkpoints → IsTrueAt r k =
+    subst (λ (q : RecordingParts). (k : ℕ) → k < length q.checkpoints → IsTrueAt q k) made.recording made.truth in
+    inl (record { no_fault = made.made; output_is = file; accepted = accepted-text v r bytes (last_text v bytes r file) truth; status_is = refl })
 
 pub returns-in-Err : goal.returns-in-Err
 returns-in-Err c =

@@ -8,7 +8,7 @@ pub returns-in-Ok-Some-clause-value : goal.returns-in-Ok-Some-clause-value
 returns-in-Ok-Some-clause-value c =
     let found = found_of c.args.matches.now in
     chosen (one_text found (codes "shard")) (rows_of found) (one_text-rows found (codes "shard")) c.try_get_one.result c.try_get_one.ensures.none
-    c.try_get_one.ensures.value c.in-Ok-Some.choice (c.in-Ok-Some.is ∙ ap Ok c.in-Ok-Some.field-0-is)
+    c.try_get_one.ensures.value c.in-Ok-Some.choice c.versions_in.result (c.in-Ok-Some.is ∙ ap Ok c.in-Ok-Some.field-0-is) c.versions_in.ensures
 
 pub returns-in-Ok-Some-clause-limits : goal.returns-in-Ok-Some-clause-limits
 returns-in-Ok-Some-clause-limits c =

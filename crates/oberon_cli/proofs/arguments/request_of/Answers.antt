@@ -3,11 +3,11 @@ use Rattle.oberon_cli.proofs.arguments.request_of.Goals as goal
 
 pub returns-in-migrate-clause-value : goal.returns-in-migrate-clause-value
 returns-in-migrate-clause-value c =
-    asked_migrate _ _ _ (found_one c.args.matches.now _ _ c.in_ok-name.ensures.name c.in_ok-name.ensures.rows) c.in-migrate.is
+    asked_migrate _ _ _ _ (found_one c.args.matches.now _ _ c.in_ok-name.ensures.name c.in_ok-name.ensures.rows) c.in-migrate.is c.versions_in-in-migrate.ensures
 
 pub returns-in-record-clause-value : goal.returns-in-record-clause-value
 returns-in-record-clause-value c =
-    asked_record _ _ _ (found_one c.args.matches.now _ _ c.in_ok-name.ensures.name c.in_ok-name.ensures.rows) c.in-record.is
+    asked_record _ _ _ _ (found_one c.args.matches.now _ _ c.in_ok-name.ensures.name c.in_ok-name.ensures.rows) c.in-record.is c.versions_in.ensures
 
 pub returns-in_default-clause-value : goal.returns-in_default-clause-value
 returns-in_default-clause-value c =
@@ -24,5 +24,5 @@ returns-in-check-clause-value c =
 
 pub returns-in_ok-whole_number-in-screen-clause-value : goal.returns-in_ok-whole_number-in-screen-clause-value
 returns-in_ok-whole_number-in-screen-clause-value c =
-    asked_screen _ _ _ _ (found_one c.args.matches.now _ _ c.in_ok-name.ensures.name c.in_ok-name.ensures.rows) c.in-screen.is
+    asked_screen _ _ _ _ _ (found_one c.args.matches.now _ _ c.in_ok-name.ensures.name c.in_ok-name.ensures.rows) c.in-screen.is c.versions_in-in-screen.ensures
     c.in_ok-whole_number-in-screen.ensures.value

@@ -22,13 +22,13 @@ returns c =
     ∙ ap₂ with_subcommand none (ap (λ (a : App). a.top) c.in_ok-check.ensures.app) in
     let two = c.in_ok-subcommand-2.ensures.shape c.combine.ensures.local
     ∙ ap₂ with_subcommand one (ap (λ (a : App). a.top) c.combine.ensures.app) in
-    let three = c.in_ok-subcommand-3.ensures.shape c.record.ensures.local
-    ∙ ap₂ with_subcommand two (ap (λ (a : App). a.top) c.record.ensures.app) in
+    let three = c.in_ok-subcommand-3.ensures.shape c.in_ok-record.ensures.local
+    ∙ ap₂ with_subcommand two (ap (λ (a : App). a.top) c.in_ok-record.ensures.app) in
     let four = c.in_ok-subcommand-4.ensures.shape c.in_ok-screen.ensures.local
     ∙ ap₂ with_subcommand three (ap (λ (a : App). a.top) c.in_ok-screen.ensures.app) in
     record {
       app = IfOk-weaker c.subcommand-5.result _ _
-          (λ r h. h.shape c.migrate.ensures.local
-          ∙ ap₂ with_subcommand four (ap (λ (a : App). a.top) c.migrate.ensures.app))
+          (λ r h. h.shape c.in_ok-migrate.ensures.local
+          ∙ ap₂ with_subcommand four (ap (λ (a : App). a.top) c.in_ok-migrate.ensures.app))
           c.subcommand-5.ensures;
     }
