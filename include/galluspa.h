@@ -28,7 +28,7 @@ extern "C" {
 
 enum {
     GALLUSPA_WORDS = 262144,             /* words of memory: 1 MiB */
-    GALLUSPA_LONGEST = 118310056,        /* bytes of the longest recording; of a longer file, pass that many and one more */
+    GALLUSPA_LONGEST = 166326444,        /* bytes of the longest recording; of a longer file, pass that many and one more */
     GALLUSPA_LONGEST_SESSION = 67108864, /* bytes of the longest session; of a longer file, too, that many and one more */
     GALLUSPA_MAX_CONDITIONS = 64         /* the most conditions of a search */
 };
@@ -46,7 +46,7 @@ enum {
     GALLUSPA_OUT_OF_MEMORY = 3,        /* an allocation failed */
     GALLUSPA_NO_RECORDING = 4,         /* the bytes are not a valid recording */
     GALLUSPA_NO_CHECKPOINT = 5,        /* the recording has no such checkpoint */
-    GALLUSPA_TOO_MANY_INPUTS = 6,      /* the recording would have more than 1,000,000 inputs */
+    GALLUSPA_TOO_MANY_INPUTS = 6,      /* the recording would have more than 4,000,000 inputs; or, if no disk answers, 1,000,000 */
     GALLUSPA_TOO_MANY_CHECKPOINTS = 7, /* .. more than 4,097 checkpoints */
     GALLUSPA_TOO_MUCH_OUTPUT = 8,      /* .. more than 1,048,576 bytes sent */
     GALLUSPA_TOO_MANY_PAGES = 9,       /* .. more than 65,536 pages */
@@ -54,8 +54,9 @@ enum {
     GALLUSPA_NOT_FOUND = 11            /* of galluspa_find alone: no condition holds at any of the counts */
 };
 
-/* The state of a machine without its memory: 136 bytes. The fields are those of a checkpoint in a recording. A function that writes
- * a state writes each field in its range, so that you can pass it to the next call. */
+/* The state of a machine without its memory: 144 bytes. The fields are those of a checkpoint in a recording. A function that writes
+ * a state writes each field in its range, so that you can pass it to the next call. If you make a state of your own, set disk to
+ * 255, unless the machine's disk has answered. */
 typedef struct {
     uint64_t count;     /* instructions executed so far */
     uint32_t r[16];     /* R0 to R15 */
@@ -72,28 +73,32 @@ typedef struct {
     uint32_t serial;    /* the byte of the serial line, and in bit 8 whether it is new: below 512 */
     uint32_t key_count; /* key codes in the queue: at most 16 */
     uint8_t keys[16];   /* the queue, oldest first. The bytes from key_count on are not read, and are written as 0 */
+    uint32_t disk;      /* what the disk answered last, the word that device word 4 reads: any; 255 before its first answer */
+    uint32_t reserved;  /* is not read, and is written as 0 */
 } galluspa_state;
 
 /* An input, and the count of the instruction before which it comes: 16 bytes, encoded as an event of a recording. */
 typedef struct {
     uint64_t count;     /* at most 2^40 */
-    uint32_t kind;      /* 1 timer, 2 switches, 3 mouse, 4 key, 5 serial */
-    uint32_t value;     /* any for the timer; below 4,096 for switches; inside 073FF3FF for the mouse; else below 256 */
+    uint32_t kind;      /* 1 timer, 2 switches, 3 mouse, 4 key, 5 serial, 6 disk */
+    uint32_t value;     /* any for the timer and the disk; below 4,096 for switches; inside 073FF3FF for the mouse; else below 256 */
 } galluspa_input;
 
-/* Checks a recording: writes its verdict line, with the line feed, to line, and to *status 0 (accepted), 1 (false) or 2 (refused).
- * The line is what the program prints, and the status what it exits with. Returns the length of the line, which is below 256; if
- * that is more than line_len, nothing is written. Returns GALLUSPA_NO_ANSWER (0), and writes nothing, if memory runs out. */
+/* Checks a recording of any version: writes its verdict line, with the line feed, to line, and to *status 0 (accepted), 1 (false)
+ * or 2 (refused). The line is what the program prints with --disk, and the status what it exits with. Returns the length of the
+ * line, which is below 256; if that is more than line_len, nothing is written. Returns GALLUSPA_NO_ANSWER (0), and writes nothing,
+ * if memory runs out. */
 size_t galluspa_check(const uint8_t *recording, size_t recording_len, uint8_t *line, size_t line_len, uint8_t *status);
 
-/* Records a session in JSON: writes its recording to out, and 0 to *status; or the line that says why it is refused, and 2. Returns
- * the length of what it writes; if that is more than out_len, nothing is written, and you call again with more room. Returns
- * GALLUSPA_NO_ANSWER (0), and writes nothing, if memory runs out. */
+/* Records a session in JSON: writes its recording to out, in version 2 for a session of version 1 or 2, in version 3 for one of
+ * version 3, and 0 to *status; or the line that says why it is refused, and 2. Returns the length of what it writes; if that is
+ * more than out_len, nothing is written, and you call again with more room. Returns GALLUSPA_NO_ANSWER (0), and writes nothing, if
+ * memory runs out. */
 size_t galluspa_record(const uint8_t *session, size_t session_len, uint8_t *out, size_t out_len, uint8_t *status);
 
-/* Migrates a recording: writes it in the current version of the format to out, and 0 to *status; or the line of the first rule that
- * the bytes break, and 2. The recording is not replayed. Returns as galluspa_record does: GALLUSPA_NO_ANSWER (0) if memory runs
- * out. */
+/* Migrates a recording: writes it to out, in version 2 if it has version 1 or 2, in version 3 if it has version 3, and 0 to
+ * *status; or the line of the first rule that the bytes break, and 2. The recording is not replayed. Returns as galluspa_record
+ * does: GALLUSPA_NO_ANSWER (0) if memory runs out. */
 size_t galluspa_migrate(const uint8_t *recording, size_t recording_len, uint8_t *out, size_t out_len, uint8_t *status);
 
 /* Reads what a checkpoint of a recording claims: its state, and its memory. words_len is GALLUSPA_WORDS. Checkpoint 0 is the
@@ -108,7 +113,7 @@ typedef struct {
     uint32_t words[256];
 } galluspa_page;
 
-/* What a checkpoint claims, its memory page by page: 4,240 bytes. */
+/* What a checkpoint claims, its memory page by page: 4,248 bytes. */
 typedef struct {
     galluspa_state state;   /* the state, with its count */
     uint64_t sent_count;    /* the number of bytes sent since the checkpoint before */
@@ -154,7 +159,7 @@ enum {
                              * for R0 to R15, 16 for H, 17 for the flags, whose value is below 16 */
     GALLUSPA_SENDS = 6,     /* the instruction sends a byte */
     GALLUSPA_SENDS_BYTE = 7, /* it sends this byte: value is below 256 */
-    GALLUSPA_TAKES = 8,     /* the machine runs, and takes an input of this kind: value is 1 to 5, as in galluspa_input */
+    GALLUSPA_TAKES = 8,     /* the machine runs, and takes an input of this kind: value is 1 to 6, as in galluspa_input */
     GALLUSPA_STOPS = 9,     /* the instruction stops the machine */
     GALLUSPA_WRITES = 10,   /* it writes a register, whatever the value, and does not stop the machine. from is the register, as of
                              * GALLUSPA_BECOMES. A result, a load and a link that write one of R0 to R15 write the flags, too; a product
@@ -244,7 +249,7 @@ uint8_t galluspa_profile(const galluspa_state *state, const uint32_t *words, siz
                          size_t inputs_len, uint64_t to, uint64_t *visits, size_t visits_len, uint64_t *departures,
                          size_t departures_len);
 
-/* What an instruction does, and the state before it: 176 bytes. A number that says nothing is 0. */
+/* What an instruction does, and the state before it: 184 bytes. A number that says nothing is 0. */
 typedef struct {
     galluspa_state state;   /* the state before the instruction, and before the inputs of its count */
     uint64_t inputs_from;   /* the index of the first input of this count or of a later one */
@@ -277,16 +282,17 @@ uint8_t galluspa_records(galluspa_state *state, uint32_t *words, size_t words_le
                          galluspa_trace_record *records, size_t records_len);
 
 /* Begins a recording: writes the recording that has no inputs, and checkpoint 0 alone, which claims this state, to out, and its
- * length to *out_count. words_len is GALLUSPA_WORDS. The state's count is 0, since a recording counts from its initial state.
- * Returns GALLUSPA_DONE; or GALLUSPA_OUT_OF_RANGE, GALLUSPA_NO_ROOM (then *out_count is the length that is needed) or
- * GALLUSPA_OUT_OF_MEMORY, and then nothing else is written. */
+ * length to *out_count. It has version 2 if disk is 255, and else version 3. words_len is GALLUSPA_WORDS. The state's count is 0,
+ * since a recording counts from its initial state. Returns GALLUSPA_DONE; or GALLUSPA_OUT_OF_RANGE, GALLUSPA_NO_ROOM (then
+ * *out_count is the length that is needed) or GALLUSPA_OUT_OF_MEMORY, and then nothing else is written. */
 uint8_t galluspa_begin(const galluspa_state *state, const uint32_t *words, size_t words_len, uint8_t *out, size_t out_len,
                        size_t *out_count);
 
 /* Extends a recording by its next checkpoint: writes the recording with these inputs and one more checkpoint to out, and its length
- * to *out_count. The checkpoint claims this state, and that these bytes were sent since the checkpoint before. The state's count is
- * above that of the last checkpoint, and at most 2^40. Each input comes between the two: at the last checkpoint's count or later,
- * and before the state's. words_len is GALLUSPA_WORDS.
+ * to *out_count. It has version 2 as long as no input and no checkpoint has an answer of a disk and it has at most 1,000,000
+ * inputs, and else version 3. The checkpoint claims this state, and that these bytes were sent since the checkpoint before. The
+ * state's count is above that of the last checkpoint, and at most 2^40. Each input comes between the two: at the last checkpoint's
+ * count or later, and before the state's. words_len is GALLUSPA_WORDS.
  *
  * Whether the claim is true is not tested. If all claims of the recording are true, and galluspa_advance returned this state and
  * these bytes from the state of its last checkpoint with these inputs, then all claims of the new recording are true. A recording

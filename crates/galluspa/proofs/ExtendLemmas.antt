@@ -1,20 +1,18 @@
 -- A recording's next checkpoint, in the words of a caller.
 use Rattle.std.proofs.Common.{◌≡◌, ◌≢◌, ◌==◌, ◌∙◌, ◌⊎◌, if◌then◌else◌, ℕ, List, [], ◌∷◌, None, ap, arith, inl, inr, map, refl, subst, sym}
 use Rattle.risc_devices.proofs.InputLemmas.{same_input}
-use Rattle.risc_devices.specs.declared.disk.TheConstants.{UNANSWERED}
 use Rattle.risc_model.specs.declared.event.Event.{Event}
 use Rattle.oberon_format.proofs.One.{same_event}
 use Rattle.oberon_format.specs.Defined.{Outcome}
 use Rattle.oberon_format.specs.Recording.{RecordingParts}
-use Rattle.oberon_format.specs.Text.{Text, IsEncoding}
-use Rattle.oberon_format.specs.ByteFields.{first_fault_of}
-use Rattle.oberon_format.specs.Laws.{HasOneRecording}
-use Rattle.oberon_format.specs.declared.layout.TheConstants.{VERSION}
+use Rattle.oberon_format.specs.Text.{TextWithDisk}
+use Rattle.oberon_format.specs.ByteFields.{first_fault_with_disk}
+use Rattle.oberon_format.specs.Laws.{HasOneRecordingWithDisk}
 use Rattle.oberon_session.specs.Extended.{HasRoom, IsExtendFault, IsExtended, IsNext, outcome_of}
 use Rattle.oberon_session.specs.declared.claim.Claim.{Claim}
 use Rattle.oberon_session.specs.declared.extend_fault.ExtendFault.{ExtendFault}
 use Rattle.oberon_session.specs.declared.extend_fault.ExtendFault.TheVariants as fault
-use Rattle.galluspa.specs.Extend.{CanFollow, DoesNotFollow, HasExtendFault, IsExtension, claim_of}
+use Rattle.galluspa.specs.Extend.{CanFollow, DoesNotFollow, HasExtendFault, IsExtension, IsFile, claim_of}
 use Rattle.galluspa.specs.Raw.{AreEvents, IsWhole, raw_input}
 use Rattle.galluspa.specs.declared.extend.Unrecorded.{Unrecorded}
 use Rattle.galluspa.specs.declared.extend.Unrecorded.TheVariants as refusal
@@ -50,7 +48,7 @@ module _ (text : List ℕ) (inputs : List RawInput) (state : RawState) (words se
   of-state : (P : ℕ → Outcome → Type 0) → P claim.count (outcome_of claim) → P state.count (claim_of state words sent)
   of-state P is = subst (P state.count) outcome (subst (λ (n : ℕ). P n (outcome_of claim)) count is)
 
-  pub is-extension : (new : RecordingParts) (new_text : List ℕ) → IsMore text inputs claim new → IsEncoding VERSION new_text new
+  pub is-extension : (new : RecordingParts) (new_text : List ℕ) → IsMore text inputs claim new → IsFile new_text new
       → IsExtension text inputs state words sent new_text
   is-extension new new_text more text_is = record {
     old = more.old;
@@ -92,7 +90,7 @@ module _ (text : List ℕ) (inputs : List RawInput) (state : RawState) (words se
     misplaced = λ next. has.is_fault.1 (subst (λ (n : ℕ). IsNext has.recording has.events n) (sym count) next);
   }))
 
-  pub unextended : HasOneRecording → (why : Unrecorded) → IsNoMore text inputs claim why → IsUnextended text inputs state words sent why
+  pub unextended : HasOneRecordingWithDisk → (why : Unrecorded) → IsNoMore text inputs claim why → IsUnextended text inputs state words sent why
   unextended one refusal.Range has = λ can.
       let recording = one text can.recording has.recording can.is_text has.is_text in
       let same = same-events can.events has.events (can.are_events.written ∙ sym has.are_events.written) in
@@ -147,19 +145,18 @@ no-other code (inl done) n not_done _ is = absurd (not_done (sym is ∙ done))
 no-other code (inr full) n _ not_full is = absurd (not_full (sym is ∙ full))
 
 -- if a recording is not extended for a fault, what is refused is that
-module _ (text : List ℕ) (inputs : List RawInput) (events : List Event) (claim : Claim) (recording : RecordingParts) (is : Text text recording)
-    (are : AreEvents inputs events) (unanswered : claim.devices.disk ≡ UNANSWERED) where
+module _ (text : List ℕ) (inputs : List RawInput) (events : List Event) (claim : Claim) (recording : RecordingParts) (is : TextWithDisk text recording)
+    (are : AreEvents inputs events) where
   full : (why : ExtendFault) → IsExtendFault recording events claim.count (outcome_of claim) why → HasFault text inputs claim why
   full why wrong = record { recording = recording; is_text = is; events = events; are_events = are; is_fault = wrong }
 
-  pub unextended-full : first_fault_of text ≡ None → (why : ExtendFault) → IsExtendFault recording events claim.count (outcome_of claim) why
+  pub unextended-full : first_fault_with_disk text ≡ None → (why : ExtendFault) → IsExtendFault recording events claim.count (outcome_of claim) why
       → IsNoMore text inputs claim (refusal_for why)
   unextended-full none fault.Pending wrong = full fault.Pending wrong
   unextended-full none fault.Order wrong = full fault.Order wrong
   unextended-full none fault.Inputs wrong = full fault.Inputs wrong
   unextended-full none fault.Checkpoints wrong = full fault.Checkpoints wrong
   unextended-full none fault.Output wrong = full fault.Output wrong
-  unextended-full none fault.Disk wrong = absurd (wrong.5 (are.unanswered, unanswered))
   unextended-full none fault.Pages wrong = full fault.Pages wrong
   unextended-full none fault.Memory wrong = none
 

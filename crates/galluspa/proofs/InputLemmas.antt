@@ -1,15 +1,11 @@
 -- Which inputs of a caller are events in order.
 use Rattle.std.proofs.Common.{◌≡◌, ◌∙◌, ◌<◌, ◌≤◌, ◌+◌, ◌-◌, ◌++◌, ℕ, List, [], ◌∷◌, zero, suc, ap, sym, subst, refl, arith, get_or, length, map, take}
-use Rattle.std.specs.List.{All}
 use Rattle.std.specs.Prelude.{◌==◌, ◌↔◌, IsTrue, false, if◌then◌else◌, slice_index, true}
 use Rattle.std.proofs.Math.Seq.{take-suc}
 use Rattle.std.proofs.lemmas.Bool.Decides.{nat_tests}
 use Rattle.std.proofs.lemmas.List.{get_or-map, length-map, map_push}
-use Rattle.std.proofs.lemmas.List.Elements.{All-head, All-tail}
-use Rattle.risc_devices.proofs.InputLemmas.{input_of, input_with_disk, input_without_disk, kind_of-input_of, no_disk_input, value_of-input_of}
-use Rattle.risc_devices.specs.Input.{value_of}
-use Rattle.risc_devices.specs.InputKind.{IsInput}
-use Rattle.risc_model.specs.DiskInputs.{IsOfDisk}
+use Rattle.risc_devices.proofs.InputLemmas.{input_of, kind_of-input_of, value_of-input_of}
+use Rattle.risc_devices.specs.InputKind.{IsInputWithDisk}
 use Rattle.risc_model.specs.declared.event.Event.{Event}
 use Rattle.risc_model.specs.declared.inputs.TheConstants.{MAX_COUNT}
 use Rattle.risc_model.specs.InputOrder.{IsFirstWrong}
@@ -18,22 +14,11 @@ use Rattle.galluspa.specs.Raw.{AreEvents, AreInOrder, raw_input}
 use Rattle.galluspa.specs.inner.Running.{IsRight, raw_before, raw_count}
 
 -- what an event is written as has a kind and a value of that kind
-lawful_at : (events : List Event) (i : ℕ) (d : RawInput) → All (λ e. ¬ (IsOfDisk e)) events → i < length (map raw_input events)
-    → IsInput (get_or (map raw_input events) i d).kind (get_or (map raw_input events) i d).value
-lawful_at [] i d none lt = absurd (omega arith)
-lawful_at (e ∷ es) zero d none lt = input_without_disk _ _ (All-head (λ x. ¬ (IsOfDisk x)) e es none) e.input.lawful
-lawful_at (e ∷ es) (suc i) d none lt = lawful_at es i d (All-tail (λ x. ¬ (IsOfDisk x)) e es none) (omega arith)
-
--- and an event that is written as an input of such a kind is no answer of a disk
-no-answers : (inputs : List RawInput) (events : List Event) → map raw_input events ≡ inputs
-    → ((k : ℕ) (d : RawInput) → k < length inputs → IsInput (get_or inputs k d).kind (get_or inputs k d).value) → All (λ e. ¬ (IsOfDisk e)) events
-no-answers inputs events same lawful k d lt is =
-    let e = get_or events k d in
-    let here : get_or inputs k (raw_input d) ≡ raw_input e =
-    ap (λ (xs : List RawInput). get_or xs k (raw_input d)) (sym same) ∙ get_or-map raw_input events k d (raw_input d) lt in
-    let inside : k < length inputs = omega (arith, ap length same, length-map events raw_input, lt) in
-    let own : IsInput (raw_input e).kind (raw_input e).value = subst (λ (r : RawInput). IsInput r.kind r.value) here (lawful k (raw_input d) inside) in
-    no_disk_input (value_of e.input) (subst (λ (kind : ℕ). IsInput kind (value_of e.input)) is own)
+lawful_at : (events : List Event) (i : ℕ) (d : RawInput) → i < length (map raw_input events)
+    → IsInputWithDisk (get_or (map raw_input events) i d).kind (get_or (map raw_input events) i d).value
+lawful_at [] i d lt = absurd (omega arith)
+lawful_at (e ∷ es) zero d lt = e.input.lawful
+lawful_at (e ∷ es) (suc i) d lt = lawful_at es i d (omega arith)
 
 -- one event more for one input more
 pub one-more : (inputs : List RawInput) (events : List Event) (e : Event) (i : ℕ) (d : RawInput) → i < length inputs → map raw_input events ≡ take i inputs
@@ -68,8 +53,8 @@ right inputs (events, are) place inside =
       rises = rising.0;
       bounded = rising.1;
       is_input = λ d.
-          let P : List RawInput → Type 0 = λ (xs : List RawInput). IsInput (get_or xs place d).kind (get_or xs place d).value in
-          subst P are.written (lawful_at events place d are.unanswered (rw are.written inside));
+          let P : List RawInput → Type 0 = λ (xs : List RawInput). IsInputWithDisk (get_or xs place d).kind (get_or xs place d).value in
+          subst P are.written (lawful_at events place d (rw are.written inside));
     }
 
 same-there : (xs : List RawInput) (i : ℕ) (d e : RawInput) → i < length xs → get_or xs i d ≡ get_or xs i e
@@ -78,17 +63,17 @@ same-there (x ∷ xs) zero d e lt = refl
 same-there (x ∷ xs) (suc i) d e lt = same-there xs i d e (omega arith)
 
 -- the input of an event is in its range
-pub input-there : (inputs : List RawInput) (i : ℕ) (d : RawInput) → i < length inputs → IsInput (get_or inputs i d).kind (get_or inputs i d).value
-    → (e : RawInput) → IsInput (get_or inputs i e).kind (get_or inputs i e).value
-input-there inputs i d lt lawful e = subst (λ (r : RawInput). IsInput r.kind r.value) (same-there inputs i d e lt) lawful
+pub input-there : (inputs : List RawInput) (i : ℕ) (d : RawInput) → i < length inputs → IsInputWithDisk (get_or inputs i d).kind (get_or inputs i d).value
+    → (e : RawInput) → IsInputWithDisk (get_or inputs i e).kind (get_or inputs i e).value
+input-there inputs i d lt lawful e = subst (λ (r : RawInput). IsInputWithDisk r.kind r.value) (same-there inputs i d e lt) lawful
 
 -- the events of inputs that are right
-made : (inputs : List RawInput) → ((k : ℕ) (d : RawInput) → k < length inputs → IsInput (get_or inputs k d).kind (get_or inputs k d).value)
+made : (inputs : List RawInput) → ((k : ℕ) (d : RawInput) → k < length inputs → IsInputWithDisk (get_or inputs k d).kind (get_or inputs k d).value)
     → ((k : ℕ) → k < length inputs → raw_count inputs k ≤ MAX_COUNT) → (events : List Event) × (map raw_input events ≡ inputs)
 made [] lawful bounded = ([], refl)
 made (r ∷ rs) lawful bounded =
     let rest = made rs (λ k d lt. lawful (suc k) d (omega arith)) (λ k lt. bounded (suc k) (omega arith)) in
-    let fits = input_with_disk r.kind r.value (lawful 0 r (omega arith)) in
+    let fits = lawful 0 r (omega arith) in
     let bound : r.count ≤ MAX_COUNT = bounded 0 (omega arith) in
     let event : Event = record { count = r.count; input = input_of r.kind r.value fits; range = omega (arith, bound) } in
     let same : raw_input event ≡ r =
@@ -108,7 +93,6 @@ in-order inputs rights =
             let there : place < length inputs = omega (arith, ap length events.1, length-map events.0 raw_input, inside) in
             let is = rights place there in
             subst (IsRising place) same (is.rises, is.bounded);
-        unanswered = no-answers inputs events.0 events.1 (λ k d lt. (rights k lt).is_input d);
       },
     )
 

@@ -1,11 +1,9 @@
 -- Two runs of a caller, the second from the end of the first, are one.
 use Rattle.std.proofs.Common.{◌≡◌, ◌∙◌, ◌<◌, ◌≤◌, ◌+◌, ◌-◌, ℕ, List, [], ◌∷◌, ◌++◌, ap, arith, get_or, length, map, refl, subst, sym}
 use Rattle.std.proofs.lemmas.List.{append-nil, get_or-map, length-map, map-append}
-use Rattle.std.proofs.lemmas.List.Elements.{All-append}
 use Rattle.std.specs.List.{All}
 use Rattle.risc_model.proofs.LawLemmas.{run_of-on, sent_of-on}
 use Rattle.risc_model.proofs.OrderLemmas.{count_at-is}
-use Rattle.risc_model.specs.DiskInputs.{IsOfDisk}
 use Rattle.risc_model.specs.InputOrder.{count_at}
 use Rattle.risc_model.specs.MachineState.{State}
 use Rattle.risc_model.specs.Replay.{run_of, sent_of}
@@ -91,7 +89,6 @@ join_law-holds first second old mid new old_words mid_words new_words sent more 
             ∙ ap (λ (l : List RawInput). l ++ map raw_input ys) run.are_events.written
             ∙ ap (λ (l : List RawInput). first ++ l) on.are_events.written;
         ordered = ordered-append xs ys mid.count run.are_events.ordered on.are_events.ordered before after;
-        unanswered = All-append (λ e. ¬ (IsOfDisk e)) xs ys run.are_events.unanswered on.are_events.unanswered;
       };
       forward = omega (arith, run.forward, on.forward);
       count_is = refl;

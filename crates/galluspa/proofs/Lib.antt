@@ -3,13 +3,13 @@ mod WordLemmas
 mod TextLemmas
 mod ClaimLemmas
 mod FrameLemmas
-mod DiskLemmas
 mod InputLemmas
 mod ConditionLemmas
 mod HitLemmas
 mod AdvanceLemmas
 mod ProfileLemmas
 mod RecordedLemmas
+mod FileLemmas
 mod ExtendLemmas
 mod RecordLemmas
 mod JoinLemmas

@@ -7,10 +7,10 @@ use Rattle.risc_model.specs.InputOrder.{count_at as event_count}
 use Rattle.risc_model.specs.MachineState.{State}
 use Rattle.risc_model.specs.Replay.{run_of, sent_of}
 use Rattle.risc_model.specs.declared.event.Event.{Event}
-use Rattle.oberon_format.proofs.One.{same_recording}
+use Rattle.oberon_format.proofs.One.{same_recording_with_disk}
 use Rattle.oberon_format.specs.Defined.{IsTrueAt, Outcome, claimed}
-use Rattle.oberon_format.specs.Recording.{IsLawful, RecordingParts, count_at, last_of}
-use Rattle.oberon_format.specs.declared.layout.TheConstants.{VERSION}
+use Rattle.oberon_format.specs.Recording.{IsLawfulWithDisk, RecordingParts, count_at, last_of}
+use Rattle.oberon_check.specs.declared.versions.Versions.TheVariants.{WithDisk}
 use Rattle.oberon_check.proofs.Accepting.{accepted-text}
 use Rattle.oberon_session.proofs.JoinedOrder.{each-count}
 use Rattle.oberon_session.specs.Extended.{HasRoom, HasTakenAll, IsExtended, IsNext, last_count}
@@ -21,13 +21,14 @@ use Rattle.galluspa.specs.Raw.{state_of}
 use Rattle.galluspa.specs.declared.raw.RawInput.{RawInput}
 use Rattle.galluspa.specs.declared.raw.RawState.{RawState}
 use Rattle.galluspa.proofs.ExtendLemmas.{same-events}
+use Rattle.galluspa.proofs.FileLemmas.{file-text}
 use Rattle.galluspa.proofs.FrameLemmas.{frame_law-holds}
 
 -- what one run from a first state gives from one count up to another
 abbrev given : List Event → State → ℕ → ℕ → Outcome
 given es first from to = record { state = run_of es 0 to first; sent = sent_of es from (to - from) (run_of es 0 from first) }
 
-module _ (r : RecordingParts) (lawful : IsLawful r) where
+module _ (r : RecordingParts) (lawful : IsLawfulWithDisk r) where
   counts-rise : (j d : ℕ) → j + d < length r.checkpoints → count_at r j ≤ count_at r (j + d)
   counts-rise j zero lt = let same : j + 0 ≡ j = omega arith in rw same (omega arith)
   counts-rise j (suc d) lt =
@@ -163,7 +164,7 @@ extended-true : (text : List ℕ) (inputs : List RawInput) (old new : RawState) 
     → IsExtension text inputs new new_words sent new_text → IsTrueUpTo new_text new new_words
 extended-true text inputs old new old_words new_words sent new_text live run ext =
     let r = live.recording in
-    let same_old = same_recording text ext.old r ext.is_text live.is_text in
+    let same_old = same_recording_with_disk text ext.old r ext.is_text live.is_text in
     let same_inputs = same-events ext.events run.events (ext.are_events.written ∙ sym run.are_events.written) in
     let claim = claim_of new new_words sent in
     let room : HasRoom r run.events new.count claim =
@@ -182,7 +183,7 @@ extended-true text inputs old new old_words new_words sent new_text live run ext
     let last : length r.checkpoints ≡ last_of ext.new = omega (arith, more.more) in
     record {
       recording = ext.new;
-      is_text = record { version = VERSION; is = ext.text_is };
+      is_text = file-text new_text ext.new ext.text_is;
       truth = true-more r live.is_text.is.lawful run.events new.count claim ext.new live.truth room.taken room.next more state_is sent_is;
       count_is = ap (λ (k : ℕ). count_at ext.new k) (sym last) ∙ more.last_counts;
       claims = ap (λ (k : ℕ). (claimed ext.new k).state) (sym last) ∙ ap (λ (o : Outcome). o.state) more.last_claims;
@@ -200,11 +201,11 @@ begun-true state words text begun =
     ∙ ap (λ (n : ℕ). given r.inputs (claimed r 0).state n n) (sym begun.begun.begins) in
     record {
       recording = r;
-      is_text = record { version = VERSION; is = begun.text_is };
+      is_text = file-text text r begun.text_is;
       truth = λ k lt. let first : 0 ≡ k = omega (arith, begun.begun.one, lt) in subst (λ (n : ℕ). IsTrueAt r n) first here;
       count_is = ap (λ (k : ℕ). count_at r k) last ∙ begun.begun.begins ∙ sym begun.begins;
       claims = ap (λ (k : ℕ). (claimed r k).state) last ∙ ap (λ (o : Outcome). o.state) begun.begun.claims;
     }
 
 pub record_law-holds : RecordLaw
-record_law-holds = (begun-true, extended-true, (λ text state words live. accepted-text live.recording text live.is_text live.truth))
+record_law-holds = (begun-true, extended-true, (λ text state words live. accepted-text WithDisk live.recording text live.is_text live.truth))

@@ -1,22 +1,20 @@
 -- Records of a run, one after another.
-use Rattle.std.proofs.Common.{◌≡◌, ◌∙◌, ◌≤◌, ℕ, List, ap, arith, drop, length, refl, slice_index_or, subst, sym}
-use Rattle.std.specs.Prelude.{All}
+use Rattle.std.proofs.Common.{◌≡◌, ◌∙◌, ℕ, List, ap, arith, length, subst, sym}
 use Rattle.std.proofs.Math.ListN.{get_or-eq_default}
 use Rattle.risc_model.specs.declared.event.Event.{Event}
 use Rattle.risc_model.specs.MachineState.{State}
 use Rattle.risc_search.specs.declared.effect.Effect.{Effect}
 use Rattle.risc_search.specs.Effects.{IsEffect}
-use Rattle.galluspa.specs.Raw.{AreDevices, IsCpu, cpu_of, devices_of}
+use Rattle.galluspa.specs.Raw.{AreDevices, IsCpu, IsPadded, cpu_of, devices_of}
 use Rattle.galluspa.specs.Records.{AreFirstRecorded, AreRecorded, IsPlain, IsRecord, effect_of}
 use Rattle.galluspa.specs.declared.raw.RawState.{RawState}
 use Rattle.galluspa.specs.declared.records.RawRecord.{RawRecord}
 
 -- a record of a state and an effect
 pub record-is : (r : RawRecord) (state : RawState) (effect : Effect) (es : List Event) (n : ℕ) (s : State) → r.state ≡ state → effect_of r ≡ effect → IsPlain r
-    → state.count ≡ n → cpu_of state ≡ s.cpu → devices_of state ≡ s.devices → IsCpu state → AreDevices state → All (λ (key : ℕ). key ≡ 0) (drop state.key_count state.keys)
+    → state.count ≡ n → cpu_of state ≡ s.cpu → devices_of state ≡ s.devices → IsCpu state → AreDevices state → IsPadded state
     → IsEffect effect es n s → IsRecord r es n s
 record-is r state effect es n s same did plain count cpu devices cpu_range devices_range padded is =
-    let P : RawState → Type 0 = λ (x : RawState). All (λ (key : ℕ). key ≡ 0) (drop x.key_count x.keys) in
     let Q : Effect → Type 0 = λ (e : Effect). IsEffect e es n s in
     record {
       count_is = ap (λ (x : RawState). x.count) same ∙ count;
@@ -24,7 +22,7 @@ record-is r state effect es n s same did plain count cpu devices cpu_range devic
       devices_are = ap devices_of same ∙ devices;
       cpu = subst IsCpu (sym same) cpu_range;
       devices = subst AreDevices (sym same) devices_range;
-      padded = subst P (sym same) padded;
+      padded = subst IsPadded (sym same) padded;
       effect = subst Q (sym did) is;
       plain = plain;
     }

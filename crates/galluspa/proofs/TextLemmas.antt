@@ -1,20 +1,20 @@
 -- What bytes are read as.
-use Rattle.std.proofs.Common.{◌≡◌, ◌≢◌, ◌∙◌, ℕ, List, Err, IfSome, MatchOption, MatchResult, None, Ok, Option, Result, Some, arith, refl, subst, sym}
+use Rattle.std.proofs.Common.{◌≡◌, ◌≢◌, ◌∙◌, ℕ, List, Err, IfSome, MatchOption, MatchResult, None, Ok, Option, Result, Some, arith, subst, refl, sym}
 use Rattle.oberon_format.specs.Line.{IsNamedFault}
 use Rattle.oberon_format.specs.Recording.{RecordingParts}
-use Rattle.oberon_format.specs.Text.{Text}
-use Rattle.oberon_format.specs.ByteFields.{AnswersBytes, first_fault_of}
+use Rattle.oberon_format.specs.Text.{TextWithDisk}
+use Rattle.oberon_format.specs.ByteFields.{AnswersBytesWithDisk, first_fault_with_disk}
 use Rattle.oberon_format.specs.declared.fault.Fault.{Fault}
-use Rattle.oberon_format.proofs.Named.{fault_named}
-use Rattle.oberon_answers.proofs.ReadLemmas.{first-fault, good-answer}
+use Rattle.oberon_check.proofs.InVersions.{first-fault, good-answer, named_in}
+use Rattle.oberon_check.specs.declared.versions.Versions.TheVariants.{WithDisk}
 use Rattle.galluspa.specs.Claim.{IsNoRecording}
 
 -- what is read is the recording of the bytes
-pub read-text : (text : List ℕ) (recording : RecordingParts) → AnswersBytes text (Text text) (Ok recording) → Text text recording
-read-text text recording = good-answer text (Text text) recording
+pub read-text : (text : List ℕ) (recording : RecordingParts) → AnswersBytesWithDisk text (TextWithDisk text) (Ok recording) → TextWithDisk text recording
+read-text text recording = good-answer WithDisk text (TextWithDisk text) recording
 
 -- bytes that are read have no fault
-pub no-fault : {A : Type 0} (text : List ℕ) (IsGood : A → Type 0) (answer : A) → AnswersBytes text IsGood (Ok answer) → first_fault_of text ≡ None
+pub no-fault : {A : Type 0} (text : List ℕ) (IsGood : A → Type 0) (answer : A) → AnswersBytesWithDisk text IsGood (Ok answer) → first_fault_with_disk text ≡ None
 no-fault text IsGood answer is = search arith
 
 memory-only : {A : Type 0} (first : Option Fault) (IsGood : A → Type 0) (why : Fault)
@@ -26,10 +26,10 @@ memory-only (Some fault) IsGood why same memory named =
     absurd (subst IsNamedFault (sym other ∙ memory) named)
 
 -- .. nor have those for which memory ran out, since no rule is broken with that
-pub no-fault-memory : {A : Type 0} (text : List ℕ) (IsGood : A → Type 0) (why : Fault) → AnswersBytes text IsGood (Err why) → why ≡ Fault.Memory
-    → first_fault_of text ≡ None
-no-fault-memory text IsGood why is memory = memory-only (first_fault_of text) IsGood why is memory (fault_named text)
+pub no-fault-memory : {A : Type 0} (text : List ℕ) (IsGood : A → Type 0) (why : Fault) → AnswersBytesWithDisk text IsGood (Err why) → why ≡ Fault.Memory
+    → first_fault_with_disk text ≡ None
+no-fault-memory text IsGood why is memory = memory-only (first_fault_with_disk text) IsGood why is memory (named_in WithDisk text)
 
 -- .. and they are not a recording
-pub no-text : (text : List ℕ) (why : Fault) → AnswersBytes text (Text text) (Err why) → why ≢ Fault.Memory → IsNoRecording text
-no-text text why answer other = record { fault = why; is_first = first-fault text (Text text) why answer other }
+pub no-text : (text : List ℕ) (why : Fault) → AnswersBytesWithDisk text (TextWithDisk text) (Err why) → why ≢ Fault.Memory → IsNoRecording text
+no-text text why answer other = record { fault = why; is_first = first-fault WithDisk text (TextWithDisk text) why answer other }

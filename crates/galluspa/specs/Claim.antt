@@ -5,8 +5,8 @@ use Rattle.risc_pages.specs.Pages.{zero_page}
 use Rattle.oberon_format.specs.declared.fault.Fault.{Fault}
 use Rattle.oberon_format.specs.Defined.{claimed}
 use Rattle.oberon_format.specs.Recording.{RecordingParts, count_at}
-use Rattle.oberon_format.specs.Text.{Text}
-use Rattle.oberon_format.specs.ByteFields.{first_fault_of}
+use Rattle.oberon_format.specs.Text.{TextWithDisk}
+use Rattle.oberon_format.specs.ByteFields.{first_fault_with_disk}
 use Rattle.galluspa.specs.declared.claims.RawCheckpoint.{RawCheckpoint}
 use Rattle.galluspa.specs.declared.claims.RawPage.{RawPage}
 use Rattle.galluspa.specs.declared.raw.RawState.{RawState}
@@ -15,7 +15,7 @@ use Rattle.galluspa.specs.Raw.{IsWritten, state_of}
 -- the bytes are a recording with such a checkpoint, and this is the state that it claims, with its count
 pub record IsClaim (text : List ℕ) (at : ℕ) (state : RawState) (words : List ℕ) : Type 0 where
   pub recording : RecordingParts
-  pub is_text : Text text recording
+  pub is_text : TextWithDisk text recording
   pub there : at < length recording.checkpoints
   pub count_is : state.count ≡ count_at recording at
   pub state_is : state_of state words ≡ (claimed recording at).state
@@ -23,13 +23,13 @@ pub record IsClaim (text : List ℕ) (at : ℕ) (state : RawState) (words : List
 -- the bytes are a recording that has no such checkpoint
 pub record HasNoCheckpoint (text : List ℕ) (at : ℕ) : Type 0 where
   pub recording : RecordingParts
-  pub is_text : Text text recording
+  pub is_text : TextWithDisk text recording
   pub beyond : length recording.checkpoints ≤ at
 
 -- the bytes are not a recording: they break a rule of the format
 pub record IsNoRecording (text : List ℕ) : Type 0 where
   pub fault : Fault
-  pub is_first : first_fault_of text ≡ Some fault
+  pub is_first : first_fault_with_disk text ≡ Some fault
 
 -- ---- what all checkpoints claim
 
@@ -50,7 +50,7 @@ pub record IsClaimOf (recording : RecordingParts) (at : ℕ) (checkpoint : RawCh
 pub record AreClaims (text : List ℕ) (checkpoints : List RawCheckpoint) (checkpoints_count : ℕ) (pages : List RawPage) (pages_count : ℕ)
     : Type 0 where
   pub recording : RecordingParts
-  pub is_text : Text text recording
+  pub is_text : TextWithDisk text recording
   pub count_is : checkpoints_count ≡ length recording.checkpoints
   pub pages_are : pages_count ≡ length recording.pool + 1
   pub checkpoints_fit : checkpoints_count ≤ length checkpoints
@@ -62,7 +62,7 @@ pub record AreClaims (text : List ℕ) (checkpoints : List RawCheckpoint) (check
 -- one of both
 pub record NeedsClaimRoom (text : List ℕ) (checkpoints_room checkpoints_count pages_room pages_count : ℕ) : Type 0 where
   pub recording : RecordingParts
-  pub is_text : Text text recording
+  pub is_text : TextWithDisk text recording
   pub checkpoints_are : checkpoints_count ≡ length recording.checkpoints
   pub pages_are : pages_count ≡ length recording.pool + 1
   pub short : (checkpoints_room < checkpoints_count) ⊎ (pages_room < pages_count)

@@ -73,7 +73,7 @@ condition_of c =
     else if kind_of c == 5 then becomes c
     else if kind_of c == 6 then Some Sends
     else if kind_of c == 7 then (if nat_lt c.value (2 ^ 8) then Some (SendsByte c.value) else None)
-    else if kind_of c == 8 then (if nat_le 1 c.value && nat_le c.value 5 then Some (Takes c.value) else None)
+    else if kind_of c == 8 then (if nat_le 1 c.value && nat_le c.value 6 then Some (Takes c.value) else None)
     else if kind_of c == 9 then Some Stops
     else if kind_of c == 10 then writes c
     else if kind_of c == 11 then is_value c

@@ -2,14 +2,20 @@
 use Rattle.std.specs.Prelude.{ℕ, ◌≡◌, ◌⊎◌, List}
 use Rattle.oberon_format.specs.Defined.{Outcome}
 use Rattle.oberon_format.specs.Recording.{RecordingParts}
-use Rattle.oberon_format.specs.Text.{Text, IsEncoding}
-use Rattle.oberon_format.specs.declared.layout.TheConstants.{VERSION}
+use Rattle.oberon_format.specs.Text.{IsEncoding, IsPlain, TextWithDisk}
+use Rattle.oberon_format.specs.declared.layout.TheConstants.{VERSION, VERSION_WITH_DISK}
 use Rattle.oberon_session.specs.Extended.{HasRoom, HasTakenAll, IsBegun, IsExtendFault, IsExtended, IsNext}
 use Rattle.oberon_session.specs.declared.extend_fault.ExtendFault.{ExtendFault}
 use Rattle.risc_model.specs.declared.event.Event.{Event}
 use Rattle.galluspa.specs.declared.raw.RawState.{RawState}
 use Rattle.galluspa.specs.declared.raw.RawInput.{RawInput}
 use Rattle.galluspa.specs.Raw.{AreEvents, AreNoEvents, IsWhole, state_of}
+
+-- the bytes are the file of a recording: in version 2 if that holds it, as it holds each that has no answer of a disk and at most
+-- 1,000,000 inputs, and else in version 3
+pub record IsFile (text : List ℕ) (r : RecordingParts) : Type 0 where
+  pub plain : IsPlain r → IsEncoding VERSION text r
+  pub others : ¬ (IsPlain r) → IsEncoding VERSION_WITH_DISK text r
 
 -- ---- the beginning
 
@@ -18,12 +24,12 @@ pub record CanBegin (state : RawState) (words : List ℕ) : Type 0 where
   pub is_whole : IsWhole state words
   pub begins : state.count ≡ 0
 
--- the bytes are the recording that begins with a state at count 0, in the version that is written
+-- the bytes are the file of the recording that begins with a state at count 0
 pub record IsBeginning (state : RawState) (words text : List ℕ) : Type 0 where
   pub begins : state.count ≡ 0
   pub recording : RecordingParts
   pub begun : IsBegun (state_of state words) recording
-  pub text_is : IsEncoding VERSION text recording
+  pub text_is : IsFile text recording
 
 -- ---- the next checkpoint
 
@@ -36,7 +42,7 @@ claim_of state words sent = record { state = state_of state words; sent = sent }
 pub record CanFollow (text : List ℕ) (inputs : List RawInput) (state : RawState) (words : List ℕ) : Type 0 where
   pub is_whole : IsWhole state words
   pub recording : RecordingParts
-  pub is_text : Text text recording
+  pub is_text : TextWithDisk text recording
   pub events : List Event
   pub are_events : AreEvents inputs events
   pub next : IsNext recording events state.count
@@ -44,7 +50,7 @@ pub record CanFollow (text : List ℕ) (inputs : List RawInput) (state : RawStat
 -- the bytes are a recording that has taken its inputs, and the new inputs are in order, but they and the state do not come next
 pub record IsOutOfPlace (text : List ℕ) (inputs : List RawInput) (state : RawState) : Type 0 where
   pub recording : RecordingParts
-  pub is_text : Text text recording
+  pub is_text : TextWithDisk text recording
   pub taken : HasTakenAll recording
   pub events : List Event
   pub are_events : AreEvents inputs events
@@ -54,22 +60,22 @@ pub record IsOutOfPlace (text : List ℕ) (inputs : List RawInput) (state : RawS
 abbrev pub DoesNotFollow : List ℕ → List RawInput → RawState → List ℕ → Type 0
 DoesNotFollow text inputs state words = ¬ (IsWhole state words) ⊎ (AreNoEvents inputs ⊎ IsOutOfPlace text inputs state)
 
--- the second bytes are the recording of the first, with these inputs and one more checkpoint, which claims this
+-- the second bytes are the file of the recording of the first, with these inputs and one more checkpoint, which claims this
 pub record IsExtension (text : List ℕ) (inputs : List RawInput) (state : RawState) (words sent new_text : List ℕ) : Type 0 where
   pub old : RecordingParts
-  pub is_text : Text text old
+  pub is_text : TextWithDisk text old
   pub events : List Event
   pub are_events : AreEvents inputs events
   pub room : HasRoom old events state.count (claim_of state words sent)
   pub new : RecordingParts
   pub extended : IsExtended old events state.count (claim_of state words sent) new
-  pub text_is : IsEncoding VERSION new_text new
+  pub text_is : IsFile new_text new
 
 -- the bytes are a recording, and this is why it is not extended by what follows
 pub record HasExtendFault (text : List ℕ) (inputs : List RawInput) (state : RawState) (words sent : List ℕ) (fault : ExtendFault)
     : Type 0 where
   pub recording : RecordingParts
-  pub is_text : Text text recording
+  pub is_text : TextWithDisk text recording
   pub events : List Event
   pub are_events : AreEvents inputs events
   pub is_fault : IsExtendFault recording events state.count (claim_of state words sent) fault

@@ -14,9 +14,10 @@ use Rattle.risc_pages.specs.declared.sizes.TheConstants.{MEMORY_WORDS}
 use Rattle.risc_search.specs.declared.hit.Hit.{Hit}
 use Rattle.oberon_format.specs.Defined.{IsTrueAt, claimed}
 use Rattle.oberon_format.specs.Recording.{RecordingParts, last_of}
-use Rattle.oberon_format.specs.Text.{Text}
+use Rattle.oberon_format.specs.Text.{TextWithDisk}
 use Rattle.oberon_session.specs.Extended.{last_count}
-use Rattle.oberon_answers.specs.Record.{IsAccepted}
+use Rattle.oberon_check.specs.declared.versions.Versions.TheVariants.{WithDisk}
+use Rattle.oberon_answers.specs.Record.{IsAcceptedIn}
 use Rattle.galluspa.specs.declared.conditions.RawCondition.{RawCondition}
 use Rattle.galluspa.specs.declared.raw.RawInput.{RawInput}
 use Rattle.galluspa.specs.declared.raw.RawState.{RawState}
@@ -80,10 +81,10 @@ pub record CountsLaw : Type 0 where
 
 -- ---- recordings that are made while a machine runs
 
--- the bytes are a recording, in either version, all of whose claims are true. Its last checkpoint claims this state
+-- the bytes are a recording, in any version, all of whose claims are true. Its last checkpoint claims this state
 pub record IsTrueUpTo (text : List ℕ) (state : RawState) (words : List ℕ) : Type 0 where
   pub recording : RecordingParts
-  pub is_text : Text text recording
+  pub is_text : TextWithDisk text recording
   pub truth : (k : ℕ) → k < length recording.checkpoints → IsTrueAt recording k
   pub count_is : last_count recording ≡ state.count
   pub claims : (claimed recording (last_of recording)).state ≡ state_of state words
@@ -96,7 +97,7 @@ RecordLaw =
     × ((text : List ℕ) (inputs : List RawInput) (old new : RawState) (old_words new_words sent new_text : List ℕ)
     → IsTrueUpTo text old old_words → HasRun inputs new.count old old_words new new_words sent
     → IsExtension text inputs new new_words sent new_text → IsTrueUpTo new_text new new_words)
-    × ((text : List ℕ) (state : RawState) (words : List ℕ) (live : IsTrueUpTo text state words) → IsAccepted live.recording text)
+    × ((text : List ℕ) (state : RawState) (words : List ℕ) (live : IsTrueUpTo text state words) → IsAcceptedIn WithDisk live.recording text)
 
 -- ---- the numbers that a caller in C gets
 

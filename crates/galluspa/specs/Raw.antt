@@ -5,7 +5,6 @@ use Rattle.risc_core.specs.Flags.{flags_of}
 use Rattle.risc_devices.specs.DeviceState.{AreParts, DeviceState, state_of_parts}
 use Rattle.risc_devices.specs.Input.{kind_of, value_of}
 use Rattle.risc_model.specs.declared.event.Event.{Event}
-use Rattle.risc_model.specs.DiskInputs.{IsOfDisk}
 use Rattle.risc_model.specs.InputOrder.{AreOrdered}
 use Rattle.risc_model.specs.MachineState.{CpuState, State}
 use Rattle.risc_pages.specs.declared.sizes.TheConstants.{MEMORY_WORDS}
@@ -16,9 +15,10 @@ use Rattle.galluspa.specs.declared.raw.RawInput.{RawInput}
 abbrev pub cpu_of : RawState → CpuState
 cpu_of s = record { r = s.r; h = s.h; pc = s.pc; flags = flags_of s.flags; stop = s.stop }
 
--- the devices, whose disk has not answered: there is no field for its answer. Only the first `key_count` bytes of `keys` are key codes
+-- the devices. Only the first `key_count` bytes of `keys` are key codes
 abbrev pub devices_of : RawState → DeviceState
-devices_of s = state_of_parts s.timer s.rate s.phase s.switches s.leds s.mouse s.serial (take s.key_count s.keys)
+devices_of s =
+    record (state_of_parts s.timer s.rate s.phase s.switches s.leds s.mouse s.serial (take s.key_count s.keys)) { disk = s.disk }
 
 -- the numbers of the processor are in their ranges
 abbrev pub IsCpu : RawState → Type 0
@@ -38,20 +38,23 @@ pub record IsWhole (state : RawState) (words : List ℕ) : Type 0 where
   pub cpu : IsCpu state
   pub devices : AreDevices state
 
--- a state as a call writes it: the next call takes it, and the bytes after its key codes are 0
+-- the bytes after the key codes are 0, and so is the reserved word, which nothing reads
+abbrev pub IsPadded : RawState → Type 0
+IsPadded s = All (λ key. key ≡ 0) (drop s.key_count s.keys) × (s.reserved ≡ 0)
+
+-- a state as a call writes it: the next call takes it, and what is not read of it is 0
 pub record IsWritten (state : RawState) (words : List ℕ) : Type 0 where
   pub is_whole : IsWhole state words
-  pub padded : All (λ key. key ≡ 0) (drop state.key_count state.keys)
+  pub padded : IsPadded state
 
 -- an event as a caller writes it
 abbrev pub raw_input : Event → RawInput
 raw_input e = record { count = e.count; kind = kind_of e.input; value = value_of e.input }
 
--- a caller's inputs are these events, which are in order, and none of which is an answer of a disk
+-- a caller's inputs are these events, which are in order
 pub record AreEvents (inputs : List RawInput) (events : List Event) : Type 0 where
   pub written : map raw_input events ≡ inputs
   pub ordered : AreOrdered events
-  pub unanswered : All (λ e. ¬ (IsOfDisk e)) events
 
 -- a caller's inputs are in their ranges and in order
 abbrev pub AreInOrder : List RawInput → Type 0

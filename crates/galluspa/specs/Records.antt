@@ -1,5 +1,5 @@
 -- What each instruction of a run does, in the memory of a caller.
-use Rattle.std.specs.Prelude.{ℕ, ◌≡◌, ◌+◌, ◌<◌, ◌≤◌, ◌^◌, ◌==◌, List, None, Some, All, drop, length, slice_index_or, if◌then◌else◌}
+use Rattle.std.specs.Prelude.{ℕ, ◌≡◌, ◌+◌, ◌<◌, ◌≤◌, ◌^◌, ◌==◌, List, None, Some, length, slice_index_or, if◌then◌else◌}
 use Rattle.risc_model.specs.declared.event.Event.{Event}
 use Rattle.risc_model.specs.MachineState.{State}
 use Rattle.risc_model.specs.Replay.{run_of}
@@ -8,7 +8,7 @@ use Rattle.risc_search.specs.Effects.{IsEffect}
 use Rattle.galluspa.specs.declared.raw.RawInput.{RawInput}
 use Rattle.galluspa.specs.declared.raw.RawState.{RawState}
 use Rattle.galluspa.specs.declared.records.RawRecord.{RawRecord}
-use Rattle.galluspa.specs.Raw.{AreDevices, AreEvents, AreInOrder, IsCpu, IsWhole, cpu_of, devices_of, state_of}
+use Rattle.galluspa.specs.Raw.{AreDevices, AreEvents, AreInOrder, IsCpu, IsPadded, IsWhole, cpu_of, devices_of, state_of}
 
 -- what a record says that its instruction does
 abbrev pub effect_of : RawRecord → Effect
@@ -39,7 +39,7 @@ pub record IsRecord (r : RawRecord) (es : List Event) (n : ℕ) (s : State) : Ty
   pub devices_are : devices_of r.state ≡ s.devices
   pub cpu : IsCpu r.state
   pub devices : AreDevices r.state
-  pub padded : All (λ key. key ≡ 0) (drop r.state.key_count r.state.keys)
+  pub padded : IsPadded r.state
   pub effect : IsEffect (effect_of r) es n s
   pub plain : IsPlain r
 

@@ -1,10 +1,8 @@
 //! A run of a machine in the memory of a caller.
 ghost use Rattle.std.specs.Prelude.{◌≡◌, ◌≢◌, ◌<◌, ◌≤◌, ◌+◌, ◌-◌, ◌++◌, ◌↔◌, drop, length, map, take};
 ghost use Rattle.std.specs.Prelude.{All, IfErr, IfNone, IfOk, IfSome, IsTrue, OnErr, OnOk};
-ghost use Rattle.risc_devices.specs.InputKind.{IsInput};
-ghost use Rattle.risc_devices.specs.declared.disk.TheConstants.{UNANSWERED};
+ghost use Rattle.risc_devices.specs.InputKind.{IsInputWithDisk};
 ghost use Rattle.risc_machine.specs.Allocation.{MayFail, MayFailToAllocate};
-ghost use Rattle.risc_model.specs.DiskInputs.{IsOfDisk};
 ghost use Rattle.risc_model.specs.MachineState.{cpu_state};
 ghost use Rattle.risc_model.specs.Replay.{run_of, sent_of};
 ghost use Rattle.risc_pages.specs.declared.sizes.TheConstants.{MEMORY_WORDS};
@@ -21,22 +19,22 @@ use risc_machine::{Machine, Output};
 use risc_model::{Cpu, Event, Inputs, MAX_COUNT};
 use std::alloc::{AllocError, Global};
 
-/// Tests a kind before it is cut to a byte, or 257 would pass for 1. `Input::new` tests the value.
+/// Tests a kind before it is cut to a byte, or 257 would pass for 1. `Input::new_with_disk` tests the value.
 fn event_at(count: u64, kind: u32, value: u32) -> Option<Event>
     ensures event { IfSome result (λ event. raw_input event ≡ record { count = count; kind = kind; value = value }) }
-    ensures lawful { IfSome result (λ _. IsInput kind value) }
-    ensures range { IfNone result (¬ (IsInput kind value)) }
+    ensures lawful { IfSome result (λ _. IsInputWithDisk kind value) }
+    ensures range { IfNone result (¬ (IsInputWithDisk kind value)) }
 {
-    if kind > 5 {
+    if kind > 6 {
         return None;
     }
-    match Input::new(kind as u8, value) {
+    match Input::new_with_disk(kind as u8, value) {
         Ok(input) => Some(Event { count, input }),
         Err(_) => None,
     }
 }
 
-/// Reports whether each input of a caller has a kind from 1 to 5 and a value in the range of its kind, and their counts do not fall
+/// Reports whether each input of a caller has a kind from 1 to 6 and a value in the range of its kind, and their counts do not fall
 /// and are at most 2^40 (`MAX_COUNT`).
 pub fn are_in_order(inputs: &[RawInput]) -> bool
     ensures { IsTrue result ↔ AreInOrder inputs.now }
@@ -164,7 +162,6 @@ pub fn write_machine(
 ) -> Result<(), AllocError>
     requires base { machine.base ≡ words.old }
     requires words { length words.old ≡ MEMORY_WORDS }
-    requires unanswered { machine.state.devices.disk ≡ UNANSWERED }
     ensures count { OnOk result (state.new.count ≡ count) }
     ensures state { OnOk result (state_of state.new words.new ≡ machine.entry.state) }
     ensures written { OnOk result (IsWritten state.new words.new) }
@@ -191,7 +188,6 @@ fn run_machine(
     requires state { machine.state ≡ state_of state.old words.old }
     requires base { machine.base ≡ words.old }
     requires words { length words.old ≡ MEMORY_WORDS }
-    requires unanswered { All (λ e. ¬ (IsOfDisk e)) inputs.now }
     requires forward { state.old.count ≤ to }
     ensures run { IfOk result (λ sent. IsRun inputs.now to state.old words.old state.new words.new sent.items) }
     ensures room { IfOk result (λ sent. length sent.items ≤ room) }
@@ -216,7 +212,6 @@ fn run_parts(
     requires cpu { cpu_state parts.0 ≡ cpu_of state.old }
     requires devices { parts.1 ≡ devices_of state.old }
     requires whole { IsWhole state.old words.old }
-    requires unanswered { All (λ e. ¬ (IsOfDisk e)) inputs.now }
     requires forward { state.old.count ≤ to }
     ensures run { IfOk result (λ sent. IsRun inputs.now to state.old words.old state.new words.new sent.items) }
     ensures room { IfOk result (λ sent. length sent.items ≤ room) }

@@ -2,7 +2,6 @@
 ghost use Rattle.std.specs.Prelude.{◌≡◌, ◌≢◌, ◌≤◌, ◌<◌, ◌-◌, ◌⊎◌, ◌↔◌, [], length, map, take, drop};
 ghost use Rattle.std.specs.Prelude.{All, IfErr, IfOk, IsTrue, OnErr, OnOk};
 ghost use Rattle.risc_machine.specs.CallLogs.{HasRoom, IsReserved};
-ghost use Rattle.risc_model.specs.DiskInputs.{IsOfDisk};
 ghost use Rattle.risc_model.specs.MachineState.{cpu_state};
 ghost use Rattle.risc_pages.specs.declared.sizes.TheConstants.{MEMORY_WORDS};
 ghost use Rattle.galluspa.specs.Calls.{AreOpen, HasFollowed, IsInCallsRange, IsPossible, raw_turn};
@@ -135,7 +134,6 @@ fn follow_machine(
     requires state { machine.state ≡ state_of state.old words.old }
     requires base { machine.base ≡ words.old }
     requires words { length words.old ≡ MEMORY_WORDS }
-    requires unanswered { All (λ e. ¬ (IsOfDisk e)) inputs.now }
     requires forward { state.old.count ≤ to }
     requires room { HasRoom log.old }
     requires reserved { IsReserved log.old }
@@ -168,7 +166,6 @@ fn follow_parts(
     requires cpu { cpu_state parts.0 ≡ cpu_of state.old }
     requires devices { parts.1 ≡ devices_of state.old }
     requires whole { IsWhole state.old words.old }
-    requires unanswered { All (λ e. ¬ (IsOfDisk e)) inputs.now }
     requires forward { state.old.count ≤ to }
     requires room { HasRoom log.old }
     requires reserved { IsReserved log.old }

@@ -2,14 +2,14 @@
 ghost use Rattle.std.specs.Prelude.{◌≡◌, ◌≢◌, ◌<◌, ◌≤◌, None, OnErr, OnOk, length};
 ghost use Rattle.oberon_format.specs.Defined.{claimed};
 ghost use Rattle.oberon_format.specs.Recording.{count_at};
-ghost use Rattle.oberon_format.specs.ByteFields.{first_fault_of};
+ghost use Rattle.oberon_format.specs.ByteFields.{first_fault_with_disk};
 ghost use Rattle.galluspa.specs.Claim.{HasNoCheckpoint, IsClaim, IsNoRecording};
 ghost use Rattle.galluspa.specs.Raw.{IsWritten, state_of};
 
 use crate::raw::{RawState, state_of};
 use crate::refusal::{DONE, NO_CHECKPOINT, NO_RECORDING, NO_ROOM, OUT_OF_MEMORY, OUT_OF_RANGE};
 use crate::words::copy_words;
-use oberon_format::{Fault, Recording, read};
+use oberon_format::{Fault, Recording, read_with_disk};
 use risc_pages::{MEMORY_WORDS, Memory};
 use std::alloc::{AllocError, Global};
 
@@ -56,13 +56,13 @@ pub extern "C" fn galluspa_claim(
     ensures range { result ≡ OUT_OF_RANGE → length words.old ≢ MEMORY_WORDS }
     ensures no_recording { result ≡ NO_RECORDING → IsNoRecording recording.now }
     ensures no_checkpoint { result ≡ NO_CHECKPOINT → HasNoCheckpoint recording.now at }
-    ensures memory { result ≡ OUT_OF_MEMORY → first_fault_of recording.now ≡ None }
+    ensures memory { result ≡ OUT_OF_MEMORY → first_fault_with_disk recording.now ≡ None }
     ensures codes { (result ≢ NO_ROOM) × (result ≤ NO_CHECKPOINT) }
 {
     if words.len() != MEMORY_WORDS as usize {
         return OUT_OF_RANGE;
     }
-    let valid = match read(alloc, recording) {
+    let valid = match read_with_disk(alloc, recording) {
         Ok(valid) => valid,
         Err(Fault::Memory) => return OUT_OF_MEMORY,
         Err(_) => return NO_RECORDING,

@@ -1,6 +1,6 @@
 //! What all checkpoints of a recording claim, written to the memory of a caller in one reading.
 ghost use Rattle.std.specs.Prelude.{◌≡◌, ◌≢◌, ◌<◌, ◌≤◌, ℕ, None, length, slice_index_or};
-ghost use Rattle.oberon_format.specs.ByteFields.{first_fault_of};
+ghost use Rattle.oberon_format.specs.ByteFields.{first_fault_with_disk};
 ghost use Rattle.oberon_format.specs.Recording.{checkpoint_at};
 ghost use Rattle.risc_pages.specs.Pages.{page_of};
 ghost use Rattle.galluspa.specs.Claim.{AreClaims, IsNoRecording, NeedsClaimRoom};
@@ -8,7 +8,7 @@ ghost use Rattle.galluspa.specs.inner.Claiming.{IsRawCheckpoint};
 
 use crate::raw::{RawState, state_of};
 use crate::refusal::{DONE, NO_RECORDING, NO_ROOM, OUT_OF_MEMORY, OUT_OF_RANGE};
-use oberon_format::{Fault, Recording, read};
+use oberon_format::{Fault, Recording, read_with_disk};
 use risc_pages::Pool;
 use std::alloc::Global;
 
@@ -20,7 +20,7 @@ pub struct RawPage {
     pub words: [u32; 256],
 }
 
-/// What a checkpoint claims, its memory page by page: 4,240 bytes.
+/// What a checkpoint claims, its memory page by page: 4,248 bytes.
 #[repr(C)]
 #[derive(Clone, Copy)]
 pub struct RawCheckpoint {
@@ -97,10 +97,10 @@ pub extern "C" fn galluspa_claims(
     ensures uncounted { result ≢ DONE → result ≢ NO_ROOM →
         (checkpoints_count.new ≡ checkpoints_count.old) × (pages_count.new ≡ pages_count.old) }
     ensures no_recording { result ≡ NO_RECORDING → IsNoRecording recording.now }
-    ensures memory { result ≡ OUT_OF_MEMORY → first_fault_of recording.now ≡ None }
+    ensures memory { result ≡ OUT_OF_MEMORY → first_fault_with_disk recording.now ≡ None }
     ensures codes { (result ≢ OUT_OF_RANGE) × (result ≤ NO_RECORDING) }
 {
-    let valid = match read(alloc, recording) {
+    let valid = match read_with_disk(alloc, recording) {
         Ok(valid) => valid,
         Err(Fault::Memory) => return OUT_OF_MEMORY,
         Err(_) => return NO_RECORDING,

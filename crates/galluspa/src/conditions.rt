@@ -26,7 +26,7 @@ const MAX_JOINED: u32 = 4;
 /// | 5 | a register is not the value before it, and is after it | `from`: 0 to 15, 16 for H, 17 for the flags; `value` |
 /// | 6 | it sends a byte | |
 /// | 7 | it sends this byte | `value`: below 256 |
-/// | 8 | the machine takes an input of this kind | `value`: 1 to 5 |
+/// | 8 | the machine takes an input of this kind | `value`: 1 to 6 |
 /// | 9 | it stops the machine | |
 /// | 10 | it writes a register, whatever the value, and does not stop the machine | `from`: the register, as of 5 |
 /// | 11 | the machine runs, and before the instruction a register has one of these values | `from`: the register, as of 5; `least`, `most` |
@@ -166,7 +166,7 @@ fn condition_of(raw: &RawCondition) -> Option<Condition>
         5 => becomes(raw),
         6 => Some(Condition::Sends),
         7 if raw.value < 256 => Some(Condition::SendsByte(raw.value as u8)),
-        8 if 1 <= raw.value && raw.value <= 5 => Some(Condition::Takes(raw.value as u8)),
+        8 if 1 <= raw.value && raw.value <= 6 => Some(Condition::Takes(raw.value as u8)),
         9 => Some(Condition::Stops),
         10 => writes(raw),
         11 => is_value(raw),

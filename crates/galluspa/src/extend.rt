@@ -1,15 +1,12 @@
 //! Recordings that a caller makes while a machine runs: the beginning, and the next checkpoint.
 ghost use Rattle.std.specs.Prelude.{◌≡◌, ◌≢◌, ◌<◌, ◌≤◌, ◌⊎◌, IfErr, IfNone, IfOk, IfSome, OnOk, drop, length, take};
 ghost use Rattle.risc_core.specs.declared.branch.TheConstants.{COUNTER_END};
-ghost use Rattle.risc_devices.specs.declared.disk.TheConstants.{UNANSWERED};
 ghost use Rattle.risc_pages.specs.declared.sizes.TheConstants.{MEMORY_WORDS};
-ghost use Rattle.oberon_format.specs.Text.{IsEncoding};
-ghost use Rattle.oberon_format.specs.ByteFields.{first_fault_of};
-ghost use Rattle.oberon_format.specs.declared.layout.TheConstants.{VERSION};
+ghost use Rattle.oberon_format.specs.ByteFields.{first_fault_with_disk};
 ghost use Rattle.oberon_session.specs.Extended.{outcome_of};
 ghost use Rattle.oberon_session.specs.declared.extend_fault.ExtendFault.{ExtendFault};
 ghost use Rattle.galluspa.specs.Claim.{IsNoRecording};
-ghost use Rattle.galluspa.specs.Extend.{CanBegin, CanFollow, DoesNotFollow, HasExtendFault, IsBeginning, IsExtension, claim_of};
+ghost use Rattle.galluspa.specs.Extend.{CanBegin, CanFollow, DoesNotFollow, HasExtendFault, IsBeginning, IsExtension, IsFile, claim_of};
 ghost use Rattle.galluspa.specs.Raw.{AreInOrder, IsWhole};
 ghost use Rattle.galluspa.specs.Room.{NeedsRoom};
 ghost use Rattle.galluspa.specs.inner.Extending.{IsMore, IsNoMore, IsUnextended, code_of, unextended};
@@ -21,7 +18,7 @@ use crate::refusal::{
     DONE, NO_CHECKPOINT, NO_RECORDING, NO_ROOM, OUT_OF_MEMORY, OUT_OF_RANGE, PENDING_INPUTS,
     RangeOrMemory, TOO_MANY_CHECKPOINTS, TOO_MANY_INPUTS, TOO_MANY_PAGES, TOO_MUCH_OUTPUT,
 };
-use oberon_format::{Fault, Recording, read, write};
+use oberon_format::{Fault, Recording, read_with_disk, write};
 use oberon_session::{Claim, ExtendFault, begin_recording, extend_recording};
 use std::alloc::Global;
 
@@ -73,7 +70,6 @@ fn claim_of<'a>(state: &RawState, words: &'a [u32], sent: &'a [u8]) -> Option<Cl
     ensures words { IfSome result (λ claim. length claim.words.now ≡ MEMORY_WORDS) }
     ensures counter { IfSome result (λ claim. claim.cpu.pc < COUNTER_END) }
     ensures stop { IfSome result (λ claim. claim.cpu.stop ≤ 4) }
-    ensures unanswered { IfSome result (λ claim. claim.devices.disk ≡ UNANSWERED) }
     ensures whole { IfSome result (λ _. IsWhole state.now words.now) }
     ensures range { IfNone result (¬ (IsWhole state.now words.now)) }
 {
@@ -90,7 +86,7 @@ fn claim_of<'a>(state: &RawState, words: &'a [u32], sent: &'a [u8]) -> Option<Cl
 }
 
 fn written(alloc: Global, recording: Recording) -> Result<Vec<u8>, Unrecorded>
-    ensures text { IfOk result (λ bytes. IsEncoding VERSION bytes.items recording) }
+    ensures text { IfOk result (λ bytes. IsFile bytes.items recording) }
     ensures memory { IfErr result (λ refusal. refusal ≡ Unrecorded.Memory) }
 {
     match write(alloc, &recording) {
@@ -111,12 +107,7 @@ fn beginning(alloc: Global, state: &RawState, words: &[u32]) -> Result<Vec<u8>, 
     let Some(claim) = claim_of(state, words, &[]) else {
         return Err(RangeOrMemory::Range);
     };
-    let recording = match begin_recording(alloc, claim.cpu, claim.devices, words) {
-        Ok(recording) => recording,
-        Err(ExtendFault::Memory) => return Err(RangeOrMemory::Memory),
-        // A state of a caller has no answer of a disk, and it can break no other rule.
-        Err(_) => unreachable!(),
-    };
+    let recording = begin_recording(alloc, claim.cpu, claim.devices, words)?;
     let bytes = write(alloc, &recording)?;
     Ok(bytes)
 }
@@ -130,8 +121,6 @@ fn unextended(fault: ExtendFault) -> Unrecorded
         ExtendFault::Inputs => Unrecorded::Inputs,
         ExtendFault::Checkpoints => Unrecorded::Checkpoints,
         ExtendFault::Output => Unrecorded::Output,
-        // Neither a state nor an input of a caller has an answer of a disk.
-        ExtendFault::Disk => Unrecorded::Range,
         ExtendFault::Pages => Unrecorded::Pages,
         ExtendFault::Memory => Unrecorded::Memory,
     }
@@ -146,12 +135,11 @@ fn extended(
     requires counter { claim.now.cpu.pc < COUNTER_END }
     requires stop { claim.now.cpu.stop ≤ 4 }
     requires whole { length claim.now.words.now ≡ MEMORY_WORDS }
-    requires unanswered { claim.now.devices.disk ≡ UNANSWERED }
     requires ordered { AreInOrder inputs.now }
     ensures more { IfOk result (IsMore bytes.now inputs.now claim.now) }
     ensures refused { IfErr result (IsNoMore bytes.now inputs.now claim.now) }
 {
-    let recording = match read(alloc, bytes) {
+    let recording = match read_with_disk(alloc, bytes) {
         Ok(recording) => recording,
         Err(Fault::Memory) => return Err(Unrecorded::Memory),
         Err(_) => return Err(Unrecorded::NoRecording),
@@ -276,7 +264,7 @@ pub extern "C" fn galluspa_extend(
     ensures range { result ≡ OUT_OF_RANGE → ¬ (CanFollow recording.now inputs.now state.now words.now) }
     ensures reason { result ≡ OUT_OF_RANGE → DoesNotFollow recording.now inputs.now state.now words.now }
     ensures no_recording { result ≡ NO_RECORDING → IsNoRecording recording.now }
-    ensures memory { result ≡ OUT_OF_MEMORY → first_fault_of recording.now ≡ None }
+    ensures memory { result ≡ OUT_OF_MEMORY → first_fault_with_disk recording.now ≡ None }
     ensures pending { result ≡ PENDING_INPUTS →
         HasExtendFault recording.now inputs.now state.now words.now sent.now ExtendFault.Pending }
     ensures inputs { result ≡ TOO_MANY_INPUTS →

@@ -1,7 +1,6 @@
 //! A search for all hits in a run of a machine in the memory of a caller.
 ghost use Rattle.std.specs.Prelude.{◌≡◌, ◌≢◌, ◌≤◌, ◌<◌, ◌-◌, ◌⊎◌, drop, length, map, take};
 ghost use Rattle.std.specs.Prelude.{All, IfErr, IfOk, OnErr, OnOk};
-ghost use Rattle.risc_model.specs.DiskInputs.{IsOfDisk};
 ghost use Rattle.risc_model.specs.MachineState.{cpu_state};
 ghost use Rattle.risc_pages.specs.declared.sizes.TheConstants.{MEMORY_WORDS};
 ghost use Rattle.galluspa.specs.Conditions.{hit_of};
@@ -34,7 +33,6 @@ fn hits_of_machine(
     requires state { machine.state ≡ state_of state.old words.old }
     requires base { machine.base ≡ words.old }
     requires words { length words.old ≡ MEMORY_WORDS }
-    requires unanswered { All (λ e. ¬ (IsOfDisk e)) inputs.now }
     requires forward { state.old.count ≤ to }
     requires few { length conditions.now ≤ MAX_CONDITIONS }
     requires room { 0 < room }
@@ -69,7 +67,6 @@ fn hits_of_parts(
     requires cpu { cpu_state parts.0 ≡ cpu_of state.old }
     requires devices { parts.1 ≡ devices_of state.old }
     requires whole { IsWhole state.old words.old }
-    requires unanswered { All (λ e. ¬ (IsOfDisk e)) inputs.now }
     requires forward { state.old.count ≤ to }
     requires few { length conditions.now ≤ MAX_CONDITIONS }
     requires room { 0 < room }

@@ -1,11 +1,10 @@
 //! The state of a machine and its inputs in the memory of a caller: plain numbers in the layout of C.
-ghost use Rattle.std.specs.Prelude.{◌≡◌, ◌≤◌, ◌<◌, ◌↔◌, ◌++◌, ◌-◌, All, IfNone, IfSome, IsSome};
-ghost use Rattle.std.specs.Prelude.{drop, length, replicate};
+ghost use Rattle.std.specs.Prelude.{◌≡◌, ◌≤◌, ◌<◌, ◌↔◌, ◌++◌, ◌-◌, IfNone, IfSome, IsSome};
+ghost use Rattle.std.specs.Prelude.{length, replicate};
 ghost use Rattle.risc_core.specs.declared.branch.TheConstants.{COUNTER_END};
 ghost use Rattle.risc_core.specs.Flags.{flags_of};
-ghost use Rattle.risc_devices.specs.declared.disk.TheConstants.{UNANSWERED};
 ghost use Rattle.risc_model.specs.MachineState.{cpu_state};
-ghost use Rattle.galluspa.specs.Raw.{AreDevices, IsCpu, IsWhole, cpu_of, devices_of};
+ghost use Rattle.galluspa.specs.Raw.{AreDevices, IsCpu, IsPadded, IsWhole, cpu_of, devices_of};
 
 use crate::front::copy_to_front;
 use oberon_format::words_fit;
@@ -14,7 +13,7 @@ use risc_devices::Devices;
 use risc_model::{Cpu, Flags};
 use risc_pages::MEMORY_WORDS;
 
-/// A machine's state without the words of its memory, and the count of instructions before it: 136 bytes. The fields are those of
+/// A machine's state without the words of its memory, and the count of instructions before it: 144 bytes. The fields are those of
 /// a recording's checkpoint, and have their ranges.
 #[repr(C)]
 #[derive(Clone, Copy)]
@@ -49,6 +48,10 @@ pub struct RawState {
     pub key_count: u32,
     /// The key codes, oldest first. Those from `key_count` on are not read, and are written as 0.
     pub keys: [u8; 16],
+    /// What the disk answered last: any word, 255 before its first answer.
+    pub disk: u32,
+    /// Is not read, and is written as 0.
+    pub reserved: u32,
 }
 
 /// An input and the count before whose instruction it comes, as an event of a recording: 16 bytes.
@@ -57,7 +60,7 @@ pub struct RawState {
 pub struct RawInput {
     /// The count before whose instruction it comes: at most 2^40.
     pub count: u64,
-    /// 1 timer, 2 switches, 3 mouse, 4 key, 5 serial.
+    /// 1 timer, 2 switches, 3 mouse, 4 key, 5 serial, 6 disk.
     pub kind: u32,
     /// The value, in the range of its kind.
     pub value: u32,
@@ -98,7 +101,7 @@ fn devices_of(state: &RawState) -> Option<Devices>
         return None;
     }
     let (keys, _) = state.keys.split_at(state.key_count as usize);
-    Devices::new(
+    match Devices::new(
         state.timer,
         state.rate,
         state.phase,
@@ -107,8 +110,10 @@ fn devices_of(state: &RawState) -> Option<Devices>
         state.mouse,
         state.serial as u16,
         keys,
-    )
-    .ok()
+    ) {
+        Ok(devices) => Some(devices.with_disk(state.disk)),
+        Err(_) => None,
+    }
 }
 
 /// Returns the processor and the devices of a state; or none if a number is out of its range, as the fields of [`RawState`] have
@@ -143,18 +148,17 @@ fn sixteen(codes: &[u8]) -> [u8; 16]
     keys
 }
 
-/// Returns the state of a processor and devices at a count, in the layout of C, which has no field for an answer of a disk. The bytes
-/// after the key codes are 0.
+/// Returns the state of a processor and devices at a count, in the layout of C. The bytes after the key codes are 0, and so is the
+/// reserved word.
 pub fn state_of(count: u64, cpu: &Cpu, devices: &Devices) -> RawState
     requires counter { cpu.now.pc < COUNTER_END }
     requires stop { cpu.now.stop ≤ 4 }
-    requires unanswered { devices.now.disk ≡ UNANSWERED }
     ensures count { result.count ≡ count }
     ensures cpu { cpu_of result ≡ cpu_state cpu.now }
     ensures devices { devices_of result ≡ devices.now }
     ensures cpu_range { IsCpu result }
     ensures devices_range { AreDevices result }
-    ensures padded { All (λ key. key ≡ 0) (drop result.key_count result.keys) }
+    ensures padded { IsPadded result }
 {
     let codes = devices.keys();
     RawState {
@@ -173,5 +177,7 @@ pub fn state_of(count: u64, cpu: &Cpu, devices: &Devices) -> RawState
         serial: devices.serial() as u32,
         key_count: codes.len() as u32,
         keys: sixteen(codes),
+        disk: devices.disk(),
+        reserved: 0,
     }
 }

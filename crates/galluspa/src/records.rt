@@ -1,7 +1,5 @@
 //! What each instruction of a run does, in the memory of a caller.
 ghost use Rattle.std.specs.Prelude.{◌≡◌, ◌≢◌, ◌≤◌, ◌<◌, ◌+◌, ◌^◌, ◌⊎◌, length, All, IfErr, IfSome, OnErr, OnOk};
-ghost use Rattle.risc_devices.specs.declared.disk.TheConstants.{UNANSWERED};
-ghost use Rattle.risc_model.specs.DiskInputs.{IsOfDisk};
 ghost use Rattle.risc_model.specs.MachineState.{cpu_state};
 ghost use Rattle.risc_model.specs.Replay.{run_of};
 ghost use Rattle.risc_pages.specs.declared.sizes.TheConstants.{MEMORY_WORDS};
@@ -19,7 +17,7 @@ use risc_model::{Cpu, Inputs, first_from};
 use risc_search::{Access, Accessed, Effect, inputs_after, step_with_effect};
 use std::alloc::{AllocError, Global};
 
-/// What an instruction does, and the state before it: 176 bytes. A number that says nothing is 0.
+/// What an instruction does, and the state before it: 184 bytes. A number that says nothing is 0.
 #[repr(C)]
 #[derive(Clone, Copy)]
 pub struct RawRecord {
@@ -92,8 +90,6 @@ fn record_machine(
     records: &mut [RawRecord],
 ) -> Result<(), AllocError>
     requires short { from + length records.old < 2 ^ 64 }
-    requires state { machine.old.state.devices.disk ≡ UNANSWERED }
-    requires unanswered { All (λ e. ¬ (IsOfDisk e)) inputs.now }
     ensures each { OnOk result (AreRecorded (length records.new) records.new inputs.now from machine.old.state) }
     ensures state { OnOk result (machine.new.state ≡ run_of inputs.now from (length records.new) machine.old.state) }
     ensures first { OnErr result (AreFirstRecorded inputs.now from machine.old.state records.old records.new) }
@@ -124,7 +120,6 @@ fn move_to(
 ) -> Result<(), AllocError>
     requires base { machine.base ≡ words.old }
     requires words { length words.old ≡ MEMORY_WORDS }
-    requires unanswered { machine.state.devices.disk ≡ UNANSWERED }
     ensures moved { OnOk result (IsMoved machine.entry.state count state.new words.new) }
     ensures unchanged { OnErr result ((state.new ≡ state.old) × (words.new ≡ words.old)) }
 {
@@ -148,7 +143,6 @@ fn record_parts(
     requires cpu { cpu_state parts.0 ≡ cpu_of state.old }
     requires devices { parts.1 ≡ devices_of state.old }
     requires whole { IsWhole state.old words.old }
-    requires unanswered { All (λ e. ¬ (IsOfDisk e)) inputs.now }
     requires short { state.old.count + length records.old < 2 ^ 64 }
     ensures each { OnOk result
         (AreRecorded (length records.new) records.new inputs.now state.old.count (state_of state.old words.old)) }

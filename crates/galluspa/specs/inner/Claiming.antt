@@ -1,8 +1,8 @@
 -- What a checkpoint claims, before its pages are written.
-use Rattle.std.specs.Prelude.{◌≡◌, All, drop, length}
+use Rattle.std.specs.Prelude.{◌≡◌, length}
 use Rattle.oberon_format.specs.CheckpointParts.{CheckpointParts}
 use Rattle.galluspa.specs.declared.claims.RawCheckpoint.{RawCheckpoint}
-use Rattle.galluspa.specs.Raw.{AreDevices, IsCpu, cpu_of, devices_of}
+use Rattle.galluspa.specs.Raw.{AreDevices, IsCpu, IsPadded, cpu_of, devices_of}
 
 -- the parts of a checkpoint, as a caller gets them, each number in its range
 pub record IsRawCheckpoint (c : CheckpointParts) (checkpoint : RawCheckpoint) : Type 0 where
@@ -13,4 +13,4 @@ pub record IsRawCheckpoint (c : CheckpointParts) (checkpoint : RawCheckpoint) : 
   pub pages_are : checkpoint.pages ≡ c.table
   pub cpu : IsCpu checkpoint.state
   pub devices : AreDevices checkpoint.state
-  pub padded : All (λ key. key ≡ 0) (drop checkpoint.state.key_count checkpoint.state.keys)
+  pub padded : IsPadded checkpoint.state

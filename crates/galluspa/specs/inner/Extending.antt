@@ -1,9 +1,9 @@
 -- A recording while its next checkpoint is added.
 use Rattle.std.specs.Prelude.{ℕ, ◌≡◌, List, None}
 use Rattle.risc_model.specs.declared.event.Event.{Event}
-use Rattle.oberon_format.specs.Recording.{IsLawful, RecordingParts}
-use Rattle.oberon_format.specs.Text.{Text}
-use Rattle.oberon_format.specs.ByteFields.{first_fault_of}
+use Rattle.oberon_format.specs.Recording.{IsLawfulWithDisk, RecordingParts}
+use Rattle.oberon_format.specs.Text.{TextWithDisk}
+use Rattle.oberon_format.specs.ByteFields.{first_fault_with_disk}
 use Rattle.oberon_session.specs.Extended.{HasRoom, IsExtendFault, IsExtended, outcome_of}
 use Rattle.oberon_session.specs.declared.claim.Claim.{Claim}
 use Rattle.oberon_session.specs.declared.extend_fault.ExtendFault.{ExtendFault}
@@ -20,31 +20,30 @@ use Rattle.galluspa.specs.Raw.{AreEvents}
 
 -- the recording of the bytes, extended by a claim
 pub record IsMore (text : List ℕ) (inputs : List RawInput) (claim : Claim) (new : RecordingParts) : Type 0 where
-  pub no_fault : first_fault_of text ≡ None
+  pub no_fault : first_fault_with_disk text ≡ None
   pub old : RecordingParts
-  pub is_text : Text text old
+  pub is_text : TextWithDisk text old
   pub events : List Event
   pub are_events : AreEvents inputs events
   pub room : HasRoom old events claim.count (outcome_of claim)
   pub extended : IsExtended old events claim.count (outcome_of claim) new
-  pub lawful : IsLawful new
+  pub lawful : IsLawfulWithDisk new
 
 -- the bytes are a recording that is not extended, for this fault
 pub record HasFault (text : List ℕ) (inputs : List RawInput) (claim : Claim) (fault : ExtendFault) : Type 0 where
   pub recording : RecordingParts
-  pub is_text : Text text recording
+  pub is_text : TextWithDisk text recording
   pub events : List Event
   pub are_events : AreEvents inputs events
   pub is_fault : IsExtendFault recording events claim.count (outcome_of claim) fault
 
--- the refusal for a fault of the extension. `Disk` never occurs: neither a state nor an input of a caller has an answer of a disk
+-- the refusal for a fault of the extension
 abbrev pub unextended : ExtendFault → Unrecorded
 unextended fault.Pending = refusal.Pending
 unextended fault.Order = refusal.Range
 unextended fault.Inputs = refusal.Inputs
 unextended fault.Checkpoints = refusal.Checkpoints
 unextended fault.Output = refusal.Output
-unextended fault.Disk = refusal.Range
 unextended fault.Pages = refusal.Pages
 unextended fault.Memory = refusal.Memory
 
@@ -57,7 +56,7 @@ IsNoMore text inputs claim refusal.Inputs = HasFault text inputs claim ExtendFau
 IsNoMore text inputs claim refusal.Checkpoints = HasFault text inputs claim ExtendFault.Checkpoints
 IsNoMore text inputs claim refusal.Output = HasFault text inputs claim ExtendFault.Output
 IsNoMore text inputs claim refusal.Pages = HasFault text inputs claim ExtendFault.Pages
-IsNoMore text inputs claim refusal.Memory = first_fault_of text ≡ None
+IsNoMore text inputs claim refusal.Memory = first_fault_with_disk text ≡ None
 
 -- the same in terms of the caller's numbers
 abbrev pub IsUnextended : List ℕ → List RawInput → RawState → List ℕ → List ℕ → Unrecorded → Type 0
@@ -68,7 +67,7 @@ IsUnextended text inputs state words sent refusal.Inputs = HasExtendFault text i
 IsUnextended text inputs state words sent refusal.Checkpoints = HasExtendFault text inputs state words sent ExtendFault.Checkpoints
 IsUnextended text inputs state words sent refusal.Output = HasExtendFault text inputs state words sent ExtendFault.Output
 IsUnextended text inputs state words sent refusal.Pages = HasExtendFault text inputs state words sent ExtendFault.Pages
-IsUnextended text inputs state words sent refusal.Memory = first_fault_of text ≡ None
+IsUnextended text inputs state words sent refusal.Memory = first_fault_with_disk text ≡ None
 
 -- the number that a caller in C gets
 abbrev pub code_of : Unrecorded → ℕ

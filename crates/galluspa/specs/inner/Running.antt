@@ -1,6 +1,6 @@
 -- A run of a machine, and why a caller gets none.
 use Rattle.std.specs.Prelude.{ℕ, ◌≡◌, ◌<◌, ◌≤◌, ◌-◌, ◌==◌, if◌then◌else◌, List, ⊤, length, map, slice_index, slice_index_or}
-use Rattle.risc_devices.specs.InputKind.{IsInput}
+use Rattle.risc_devices.specs.InputKind.{IsInputWithDisk}
 use Rattle.risc_model.specs.declared.event.Event.{Event}
 use Rattle.risc_model.specs.declared.inputs.TheConstants.{MAX_COUNT}
 use Rattle.risc_model.specs.Replay.{run_of, sent_of}
@@ -45,4 +45,4 @@ raw_before inputs place = if place == 0 then 0 else raw_count inputs (place - 1)
 pub record IsRight (inputs : List RawInput) (place : ℕ) : Type 0 where
   pub rises : raw_before inputs place ≤ raw_count inputs place
   pub bounded : raw_count inputs place ≤ MAX_COUNT
-  pub is_input : (d : RawInput) → IsInput (slice_index_or inputs place d).kind (slice_index_or inputs place d).value
+  pub is_input : (d : RawInput) → IsInputWithDisk (slice_index_or inputs place d).kind (slice_index_or inputs place d).value

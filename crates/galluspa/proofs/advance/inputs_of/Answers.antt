@@ -1,7 +1,6 @@
 use Rattle.std.proofs.Common.{◌∙◌, ap, map, subst, sym}
 use Rattle.risc_model.specs.InputOrder.{AreOrdered}
 use Rattle.galluspa.specs.Raw.{raw_input}
-use Rattle.galluspa.proofs.DiskLemmas.{same-unanswered}
 use Rattle.galluspa.proofs.InputLemmas.{not-unordered}
 use Rattle.galluspa.proofs.advance.inputs_of.Goals as goal
 
@@ -15,5 +14,4 @@ returns c =
     record {
       written = written;
       ordered = subst AreOrdered (sym c.in-Ok.ensures.list) c.in-Ok.ensures.ordered;
-      unanswered = same-unanswered _ _ (written ∙ sym c.requires.1.written) c.requires.1.unanswered;
     }

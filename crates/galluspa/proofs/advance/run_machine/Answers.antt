@@ -1,14 +1,7 @@
 use Rattle.std.proofs.Common.{◌∙◌, ◌-◌, ℕ, ap}
 use Rattle.risc_model.specs.MachineState.{State}
 use Rattle.risc_model.specs.Replay.{run_of}
-use Rattle.galluspa.proofs.DiskLemmas.{raw-unanswered, run-unanswered}
 use Rattle.galluspa.proofs.advance.run_machine.Goals as goal
-
-pub write_machine-requires-clause-unanswered : goal.write_machine-requires-clause-unanswered
-write_machine-requires-clause-unanswered c =
-    let start = c.args.state.now in
-    run-unanswered c.args.inputs.now start.count _ _ _ c.requires.unanswered
-    (raw-unanswered start c.args.words.now _ c.requires.state) c.in_ok-sent.ensures.state
 
 pub returns-clause-run : goal.returns-clause-run
 returns-clause-run c =

@@ -1,12 +1,10 @@
 use Rattle.std.proofs.Common.{◌≡◌, ◌∙◌, ◌-◌, ℕ, List, ap, length, subst, sym}
-use Rattle.risc_devices.specs.DeviceState.{DeviceState}
 use Rattle.risc_model.specs.MachineState.{State}
 use Rattle.risc_model.specs.Replay.{run_of}
 use Rattle.risc_model.specs.Turns.{IsFollowed}
 use Rattle.galluspa.specs.Calls.{AreOpen}
 use Rattle.galluspa.specs.Raw.{cpu_of, devices_of, state_of}
 use Rattle.galluspa.specs.declared.raw.RawState.{RawState}
-use Rattle.galluspa.proofs.DiskLemmas.{raw-unanswered, run-unanswered}
 use Rattle.galluspa.proofs.OpenLemmas.{open-left}
 use Rattle.galluspa.proofs.WordLemmas.{slots_inside, with_pages-delta}
 use Rattle.galluspa.proofs.calls.follow_machine.Goals as goal
@@ -14,13 +12,6 @@ use Rattle.galluspa.proofs.calls.follow_machine.Goals as goal
 -- a state is equal to another part by part
 of_parts : (state : RawState) (words : List ℕ) (s : State) → cpu_of state ≡ s.cpu → devices_of state ≡ s.devices → words ≡ s.words → state_of state words ≡ s
 of_parts state words s cpu devices same = λ i. record { cpu = cpu i; devices = devices i; words = same i }
-
-pub state_of-requires-clause-unanswered : goal.state_of-requires-clause-unanswered
-state_of-requires-clause-unanswered c =
-    let start = c.args.state.now in
-    ap (λ (d : DeviceState). d.disk) c.in_ok-cpu.ensures.devices
-    ∙ run-unanswered c.args.inputs.now start.count _ _ _ c.requires.unanswered
-    (raw-unanswered start c.args.words.now _ c.requires.state) c.in-Ok.ensures.state
 
 pub write_delta-requires-clause-slots : goal.write_delta-requires-clause-slots
 write_delta-requires-clause-slots c = slots_inside _ _ c.in_ok-cpu.delta.changed.items c.in_ok-cpu.ensures.differences

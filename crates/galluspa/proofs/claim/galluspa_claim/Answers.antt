@@ -1,5 +1,5 @@
 use Rattle.std.proofs.Common.{arith, refl}
-use Rattle.oberon_format.specs.Text.{Text}
+use Rattle.oberon_format.specs.Text.{TextWithDisk}
 use Rattle.galluspa.proofs.TextLemmas.{no-fault, no-fault-memory, read-text}
 use Rattle.galluspa.proofs.claim.galluspa_claim.Goals as goal
 
@@ -89,7 +89,7 @@ pub returns-in-Err-Memory-clause-in_range : goal.returns-in-Err-Memory-clause-in
 returns-in-Err-Memory-clause-in_range c = λ _. omega arith
 
 pub returns-in-Err-Memory-clause-memory : goal.returns-in-Err-Memory-clause-memory
-returns-in-Err-Memory-clause-memory c = λ _. no-fault-memory c.args.recording.now (Text c.args.recording.now) _ c.in-Err-Memory.ensures c.in-Err-Memory.field-0-is
+returns-in-Err-Memory-clause-memory c = λ _. no-fault-memory c.args.recording.now (TextWithDisk c.args.recording.now) _ c.in-Err-Memory.ensures c.in-Err-Memory.field-0-is
 
 pub returns-clause-memory : goal.returns-clause-memory
-returns-clause-memory c = λ _. no-fault c.args.recording.now (Text c.args.recording.now) c.in-Ok.valid c.in-Ok.ensures
+returns-clause-memory c = λ _. no-fault c.args.recording.now (TextWithDisk c.args.recording.now) c.in-Ok.valid c.in-Ok.ensures

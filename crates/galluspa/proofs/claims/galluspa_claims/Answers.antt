@@ -1,5 +1,5 @@
 use Rattle.std.proofs.Common.{◌≡◌, ◌∙◌, ◌+◌, ◌<◌, ◌≤◌, ℕ, List, ap, arith, length, refl, slice_index_or, subst, sym}
-use Rattle.oberon_format.specs.Text.{Text}
+use Rattle.oberon_format.specs.Text.{TextWithDisk}
 use Rattle.risc_pages.specs.Pages.{page_of}
 use Rattle.risc_pages.proofs.PoolLemmas.{page_of-zero}
 use Rattle.galluspa.specs.Claim.{IsClaimOf}
@@ -9,7 +9,7 @@ use Rattle.galluspa.proofs.TextLemmas.{no-fault-memory, read-text}
 use Rattle.galluspa.proofs.claims.galluspa_claims.Goals as goal
 
 pub returns-in-Err-Memory-clause-memory : goal.returns-in-Err-Memory-clause-memory
-returns-in-Err-Memory-clause-memory c = λ _. no-fault-memory c.args.recording.now (Text c.args.recording.now) _ c.in-Err-Memory.ensures c.in-Err-Memory.field-0-is
+returns-in-Err-Memory-clause-memory c = λ _. no-fault-memory c.args.recording.now (TextWithDisk c.args.recording.now) _ c.in-Err-Memory.ensures c.in-Err-Memory.field-0-is
 
 pub returns-clause-claims : goal.returns-clause-claims
 returns-clause-claims c = λ _.

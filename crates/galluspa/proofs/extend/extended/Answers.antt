@@ -1,12 +1,12 @@
 use Rattle.std.proofs.Common.{◌≢◌, arith}
-use Rattle.oberon_format.specs.Text.{Text}
+use Rattle.oberon_format.specs.Text.{TextWithDisk}
 use Rattle.oberon_format.specs.declared.fault.Fault.{Fault}
 use Rattle.galluspa.proofs.ExtendLemmas.{unextended-full}
 use Rattle.galluspa.proofs.TextLemmas.{no-fault, no-fault-memory, no-text, read-text}
 use Rattle.galluspa.proofs.extend.extended.Goals as goal
 
 pub returns-in-Err-Memory-clause-refused : goal.returns-in-Err-Memory-clause-refused
-returns-in-Err-Memory-clause-refused c = no-fault-memory c.args.bytes.now (Text c.args.bytes.now) _ c.in-Err-Memory.ensures c.in-Err-Memory.field-0-is
+returns-in-Err-Memory-clause-refused c = no-fault-memory c.args.bytes.now (TextWithDisk c.args.bytes.now) _ c.in-Err-Memory.ensures c.in-Err-Memory.field-0-is
 
 pub returns-in-Err-Memory-clause-more : goal.returns-in-Err-Memory-clause-more
 returns-in-Err-Memory-clause-more c = tt
@@ -25,7 +25,7 @@ returns-in-Ok-extend_recording-clause-refused c = tt
 
 pub returns-in-Ok-extend_recording-clause-more : goal.returns-in-Ok-extend_recording-clause-more
 returns-in-Ok-extend_recording-clause-more c = record {
-  no_fault = no-fault c.args.bytes.now (Text c.args.bytes.now) c.in-Ok.recording c.in-Ok.ensures;
+  no_fault = no-fault c.args.bytes.now (TextWithDisk c.args.bytes.now) c.in-Ok.recording c.in-Ok.ensures;
   old = c.in-Ok.recording;
   is_text = read-text c.args.bytes.now c.in-Ok.recording c.in-Ok.ensures;
   events = c.in-Ok-inputs_of.inputs;
@@ -39,8 +39,8 @@ pub returns-clause-refused : goal.returns-clause-refused
 returns-clause-refused c =
     rw c.unextended.ensures
     (unextended-full c.args.bytes.now c.args.inputs.now c.in-Ok-inputs_of.inputs c.args.claim.now c.in-Ok.recording
-    (read-text c.args.bytes.now c.in-Ok.recording c.in-Ok.ensures) c.in-Ok-inputs_of.ensures c.requires.unanswered
-    (no-fault c.args.bytes.now (Text c.args.bytes.now) c.in-Ok.recording c.in-Ok.ensures)
+    (read-text c.args.bytes.now c.in-Ok.recording c.in-Ok.ensures) c.in-Ok-inputs_of.ensures
+    (no-fault c.args.bytes.now (TextWithDisk c.args.bytes.now) c.in-Ok.recording c.in-Ok.ensures)
     c.in-Err-extend_recording.fault (rw c.events.ensures.events at c.in-Err-extend_recording.ensures.refused))
 
 pub returns-in-Err : goal.returns-in-Err

@@ -1,6 +1,6 @@
 use Rattle.std.proofs.Common.{◌∙◌, subst, sym}
 use Rattle.std.proofs.lemmas.Result.{IfErr-weaker, IfOk-weaker, err_from_is_err_and}
-use Rattle.oberon_format.proofs.One.{same_recording}
+use Rattle.oberon_format.proofs.One.{same_recording_with_disk}
 use Rattle.galluspa.specs.inner.Extending.{IsNoMore, IsUnextended}
 use Rattle.galluspa.proofs.ExtendLemmas.{can-follow, is-extension, memory-not-range, out-of-place, unextended}
 use Rattle.galluspa.proofs.extend.extension.Goals as goal
@@ -10,7 +10,7 @@ returns-in_err-more-clause-refused c =
     let from = err_from_is_err_and c.from_residual.result c.from_residual.ensures.1 in
     rw (from.1, from.2)
     (unextended c.args.bytes.now c.args.inputs.now c.args.state.now c.args.words.now c.args.sent.now c.in-Some.claim
-    c.in-Some.ensures.count c.in-Some.ensures.outcome same_recording _ c.in_err-more.ensures.refused)
+    c.in-Some.ensures.count c.in-Some.ensures.outcome same_recording_with_disk _ c.in_err-more.ensures.refused)
 
 pub returns-clause-extension : goal.returns-clause-extension
 returns-clause-extension c =

@@ -3,14 +3,7 @@ use Rattle.risc_model.specs.MachineState.{State}
 use Rattle.risc_model.specs.Replay.{run_of}
 use Rattle.risc_search.specs.Hits.{AreFirstHits}
 use Rattle.galluspa.specs.Raw.{state_of}
-use Rattle.galluspa.proofs.DiskLemmas.{raw-unanswered, run-unanswered}
 use Rattle.galluspa.proofs.hits.hits_of_machine.Goals as goal
-
-pub write_machine-requires-clause-unanswered : goal.write_machine-requires-clause-unanswered
-write_machine-requires-clause-unanswered c =
-    let start = c.args.state.now in
-    run-unanswered c.args.inputs.now start.count _ _ _ c.requires.unanswered
-    (raw-unanswered start c.args.words.now _ c.requires.state) c.in_ok-found.ensures.state
 
 pub returns-clause-hits : goal.returns-clause-hits
 returns-clause-hits c =

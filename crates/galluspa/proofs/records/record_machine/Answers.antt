@@ -1,5 +1,4 @@
 use Rattle.std.proofs.Common.{◌≡◌, ◌+◌, ◌∙◌, ℕ, List, suc, add-zero, ap, arith, length-set, refl, subst, sym}
-use Rattle.risc_devices.specs.DeviceState.{DeviceState}
 use Rattle.risc_model.specs.declared.event.Event.{Event}
 use Rattle.risc_model.specs.Exec.{exec}
 use Rattle.risc_model.specs.InputOrder.{IsNextAt}
@@ -10,7 +9,6 @@ use Rattle.risc_search.proofs.EffectLemmas.{effect-count}
 use Rattle.galluspa.specs.Records.{IsRecord}
 use Rattle.galluspa.specs.declared.records.RawRecord.{RawRecord}
 use Rattle.galluspa.proofs.ClaimLemmas.{filled-more, kept-more}
-use Rattle.galluspa.proofs.DiskLemmas.{run-unanswered}
 use Rattle.galluspa.proofs.RecordedLemmas.{record-is}
 use Rattle.galluspa.proofs.records.record_machine.Goals as goal
 
@@ -26,11 +24,6 @@ loop-index-init c =
       each = λ i d h. absurd (omega arith);
       rest = λ i d h. refl;
     }
-
-pub state_of-state-requires-clause-unanswered : goal.state_of-state-requires-clause-unanswered
-state_of-state-requires-clause-unanswered c =
-    ap (λ (d : DeviceState). d.disk) c.devices.ensures
-    ∙ run-unanswered c.args.inputs.now c.args.from c.loop-index.index c.args.machine.now.state c.loop-index.machine.state c.requires.unanswered c.requires.state c.loop-index.invariant.state
 
 pub raw_record-requires : goal.raw_record-requires
 raw_record-requires c =

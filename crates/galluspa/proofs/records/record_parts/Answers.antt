@@ -3,19 +3,8 @@ use Rattle.std.proofs.lemmas.Result.{IfErr-weaker}
 use Rattle.risc_model.specs.MachineState.{State}
 use Rattle.galluspa.specs.Raw.{state_of}
 use Rattle.galluspa.specs.Records.{AreRecorded}
-use Rattle.galluspa.proofs.DiskLemmas.{raw-unanswered, run-unanswered}
 use Rattle.galluspa.proofs.RecordedLemmas.{all-first}
 use Rattle.galluspa.proofs.records.record_parts.Goals as goal
-
-pub move_to-requires-clause-unanswered : goal.move_to-requires-clause-unanswered
-move_to-requires-clause-unanswered c =
-    let a = c.args in
-    let cpu = c.requires.cpu in
-    let devices = c.requires.devices in
-    let words = c.in_ok-pool.ensures.words in
-    let begun : c.in_ok-machine.machine.state ≡ state_of a.state.now a.words.now =
-    c.in_ok-machine.ensures.state ∙ (λ i. record { cpu = cpu i; devices = devices i; words = words i }) in
-    run-unanswered a.inputs.now a.state.now.count _ _ _ c.requires.unanswered (raw-unanswered a.state.now a.words.now _ begun) c.in_ok-record_machine.ensures.state
 
 -- memory ran out when the machine was closed: all records are written
 pub returns-clause-first : goal.returns-clause-first
