@@ -1,0 +1,4 @@
+mod Keyframes
+mod Extending
+mod Beginning
+mod Pages

@@ -1,0 +1,40 @@
+-- What a past keeps, and where a run from one of its keyframes ends.
+use Rattle.std.specs.Prelude.{ℕ, ◌≡◌, ◌+◌, ◌-◌, ◌*◌, ◌<◌, ◌≤◌, List, length, map}
+use Rattle.risc_pages.specs.Pages.{ArePages}
+use Rattle.risc_pages.specs.declared.sizes.TheConstants.{MEMORY_WORDS}
+use Rattle.risc_model.specs.MachineState.{State, IsCpuState, cpu_state}
+use Rattle.risc_model.specs.Replay.{run_of}
+use Rattle.oberon_format.specs.CheckpointParts.{CheckpointParts}
+use Rattle.oberon_format.specs.Defined.{claim_of}
+use Rattle.oberon_format.specs.Recording.{RecordingParts, checkpoint_at, count_at}
+use Rattle.oberon_session.specs.Laws.{IsTableOf}
+use Rattle.oberon_session.specs.Stored.{changed_page_view, changed_pages}
+use Rattle.oberon_past.specs.declared.running.Reached.{Reached}
+
+-- the state of a keyframe over a pool
+abbrev pub state_of : List (List ℕ) → CheckpointParts → State
+state_of pool c = (claim_of pool c).state
+
+-- keyframe k is true: its state is that of the run from the first keyframe
+abbrev pub IsTrueKeyframe : RecordingParts → ℕ → Type 0
+IsTrueKeyframe r k =
+    state_of r.pool (checkpoint_at r k) ≡ run_of r.inputs (count_at r 0) (count_at r k - count_at r 0) (state_of r.pool (checkpoint_at r 0))
+
+-- what a past keeps: a pool, inputs, and keyframes at a spacing, which are true, up to its end
+pub record IsKept (r : RecordingParts) (spacing end : ℕ) : Type 0 where
+  pub pool : ArePages r.pool
+  pub some : 0 < length r.checkpoints
+  pub spaced : 0 < spacing
+  pub counts : (k : ℕ) → k < length r.checkpoints → count_at r k ≡ count_at r 0 + k * spacing
+  pub ends : count_at r 0 + (length r.checkpoints - 1) * spacing ≤ end
+  pub cpus : (k : ℕ) → k < length r.checkpoints → IsCpuState (checkpoint_at r k).cpu
+  pub tables : (k : ℕ) → k < length r.checkpoints → IsTableOf (record { pool = r.pool; table = (checkpoint_at r k).table })
+  pub truth : (k : ℕ) → k < length r.checkpoints → IsTrueKeyframe r k
+
+-- a machine that began with these words ended in this state
+pub record IsReached (begun : List ℕ) (state : State) (reached : Reached) : Type 0 where
+  pub cpu : cpu_state reached.cpu ≡ state.cpu
+  pub devices : reached.devices ≡ state.devices
+  pub changed : map changed_page_view reached.changed.items ≡ changed_pages begun state.words
+  pub range : IsCpuState state.cpu
+  pub whole : length state.words ≡ MEMORY_WORDS

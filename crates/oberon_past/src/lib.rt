@@ -1,0 +1,18 @@
+//! The past of a run: its first state, its inputs, and keyframes, from which it has the state at each count.
+//!
+//! All that a past answers is of one run, that from the first state with these inputs, as `risc_model` defines it. No claim of a
+//! recording is used, and no answer depends on keyframes, on budgets, or on what was asked before.
+#![tactic(auto)]
+
+mod answer;
+mod extent;
+mod moment;
+mod past;
+mod running;
+mod steps;
+
+pub use answer::Answer;
+pub use extent::Extent;
+pub use moment::Moment;
+pub use past::Past;
+pub use steps::Steps;

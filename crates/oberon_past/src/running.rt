@@ -1,0 +1,77 @@
+//! The run from a keyframe to a count. The bytes that the machine sends are dropped, and take no memory.
+ghost use Rattle.std.specs.Prelude.{◌≡◌, ◌-◌, ◌<◌, ◌≤◌, IfOk};
+ghost use Rattle.risc_core.specs.declared.branch.TheConstants.{COUNTER_END};
+ghost use Rattle.risc_pages.specs.Tables.{IsNamed, table_words};
+ghost use Rattle.risc_model.specs.Replay.{run_of};
+ghost use Rattle.oberon_format.specs.CheckpointParts.{checkpoint_parts};
+ghost use Rattle.oberon_past.specs.inner.Kept.{IsReached, state_of};
+
+use oberon_format::Checkpoint;
+use risc_devices::Devices;
+use risc_machine::Machine;
+use risc_model::{Cpu, Inputs};
+use risc_pages::{Page, Pool};
+use std::alloc::{AllocError, Global};
+
+/// Where a run from a keyframe ended: the processor, the devices, and the pages that changed, each with its slot.
+#[derive(Drop)]
+pub(crate) struct Reached {
+    pub(crate) cpu: Cpu,
+    pub(crate) devices: Devices,
+    pub(crate) changed: Vec<(u16, Page)>,
+}
+
+/// Runs from a keyframe to a count, and returns the machine there.
+pub(crate) fn machine_at<'a>(
+    alloc: Global,
+    pool: &'a Pool,
+    inputs: &Inputs,
+    keyframe: &Checkpoint,
+    to: u64,
+) -> Result<Machine<'a>, AllocError>
+    requires named { IsNamed pool.now keyframe.now.table.numbers }
+    requires counter { keyframe.now.cpu.pc < COUNTER_END }
+    requires stop { keyframe.now.cpu.stop ≤ 4 }
+    requires forward { keyframe.now.count ≤ to }
+    ensures state { IfOk result (λ machine. machine.state
+        ≡ run_of inputs.now keyframe.now.count (to - keyframe.now.count) (state_of pool.now (checkpoint_parts keyframe.now))) }
+    ensures base { IfOk result (λ machine. machine.base ≡ table_words pool.now keyframe.now.table.numbers) }
+{
+    let mut machine = Machine::start(
+        alloc,
+        pool,
+        &keyframe.table,
+        keyframe.cpu,
+        keyframe.devices.copy(),
+    )?;
+    let Ok(_) = machine.run_matching(inputs, keyframe.count, to, &[]) else {
+        return Err(AllocError);
+    };
+    Ok(machine)
+}
+
+/// Runs from a keyframe to a count, and returns where it ended.
+pub(crate) fn reach(
+    alloc: Global,
+    pool: &Pool,
+    inputs: &Inputs,
+    keyframe: &Checkpoint,
+    to: u64,
+) -> Result<Reached, AllocError>
+    requires named { IsNamed pool.now keyframe.now.table.numbers }
+    requires counter { keyframe.now.cpu.pc < COUNTER_END }
+    requires stop { keyframe.now.cpu.stop ≤ 4 }
+    requires forward { keyframe.now.count ≤ to }
+    ensures { IfOk result (IsReached (state_of pool.now (checkpoint_parts keyframe.now)).words
+        (run_of inputs.now keyframe.now.count (to - keyframe.now.count) (state_of pool.now (checkpoint_parts keyframe.now)))) }
+{
+    let machine = machine_at(alloc, pool, inputs, keyframe, to)?;
+    // The contract of `owned` states that a memory has all its words.
+    let _owned = machine.memory().owned(0);
+    let (cpu, devices, delta) = machine.close()?;
+    Ok(Reached {
+        cpu,
+        devices,
+        changed: delta.changed,
+    })
+}
