@@ -1,10 +1,10 @@
-/* emulator IMAGE FRAMES RECORDING: emulator.c with a recorder in it, which writes what the machine did as a recording. */
+/* emulator IMAGE FRAMES RECORDING [CARD]: emulator.c with a recorder in it, which writes what the machine did as a recording. */
 #include "host.h"
 #include "galluspa.h"
 
 static uint64_t count;               /* the instructions that were done */
-static galluspa_input inputs[4096];  /* those since the last checkpoint */
-static size_t input_count;
+static galluspa_input *inputs;       /* those since the last checkpoint, how many there are, and for how many there is room */
+static size_t input_count, input_room;
 static uint8_t *recording;
 static size_t length, shown;         /* the bytes of the recording; how many of machine.sent were shown */
 
@@ -13,7 +13,7 @@ static galluspa_state state(void) {
     Machine *m = &machine;
     galluspa_state s = {.count = count, .h = m->h, .pc = m->pc, .flags = (uint32_t)(m->n << 3 | m->z << 2 | m->c << 1 | m->v),
         .stop = m->stop, .timer = m->timer, .switches = m->switches, .leds = m->leds, .mouse = m->mouse, .serial = m->serial,
-        .key_count = m->waiting};
+        .key_count = m->waiting, .disk = m->disk};
     memcpy(s.r, m->r, sizeof s.r);
     memcpy(s.keys, m->keys, m->waiting);
     return s;
@@ -44,11 +44,15 @@ static void save(const char *name) {
 
 static void input(uint32_t kind, uint32_t value) {
     take(&machine, &(Event){.kind = kind, .value = value});
+    if (input_count == input_room && !(inputs = realloc(inputs, (input_room += 4096) * sizeof *inputs))) die("no memory");
     inputs[input_count++] = (galluspa_input){count, kind, value};
 }
 
 static void run_frame(void) {
-    for (int at = 0; at < STEPS && !machine.stop; at++, count++) step(&machine);
+    for (int at = 0; at < STEPS && !machine.stop; at++, count++) {
+        if (card_answer != machine.disk) input(DISK_ANSWER, card_answer);
+        step(&machine);
+    }
 }
 
 static void show(void) {
@@ -58,9 +62,10 @@ static void show(void) {
 }
 
 int main(int argc, char **argv) {
-    if (argc != 4) die("usage: emulator IMAGE FRAMES RECORDING");
+    if (argc != 4 && argc != 5) die("usage: emulator IMAGE FRAMES RECORDING [CARD]");
     load(argv[1]);
-    if (!(machine.sent = malloc(machine.sent_room = 4096))) die("no memory");
+    if (argc == 5) insert(argv[4]);
+    if (!(inputs = malloc((input_room = 4096) * sizeof *inputs)) || !(machine.sent = malloc(machine.sent_room = 4096))) die("no memory");
     checkpoint();
     uint32_t begun = milliseconds();
     for (long frame = 0, frames = atol(argv[2]); frame < frames && !machine.stop; frame++) {

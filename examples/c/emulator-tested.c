@@ -26,7 +26,7 @@ static void answer(uint32_t number) {
     uint32_t words[3 + PARTS] = {number, (uint32_t)machine.sent_length, 0}, slot;
     for (slot = 0; slot < PAGES; slot++) words[2] += memcmp(memory + PAGE * slot, zeros, sizeof zeros) != 0;
     parts_of(&machine, words + 3);
-    fwrite(words, sizeof words, 1, stdout);
+    fwrite(words, sizeof *words, 3 + DISK, stdout);
     fwrite(machine.keys, KEYS, 1, stdout);
     fwrite(machine.sent, 1, machine.sent_length, stdout);
     for (slot = 0; slot < PAGES; slot++)
@@ -40,11 +40,13 @@ static void answer(uint32_t number) {
 /* Does a session: its number, how many instructions, inputs and pages; then the state, the inputs and the pages. Returns 0 if none
  * is left. Nothing is kept of the session before. */
 static int session(void) {
-    struct { uint32_t number, count, inputs, pages, parts[PARTS]; uint8_t keys[KEYS]; } s;
+    struct { uint32_t number, count, inputs, pages, parts[DISK]; uint8_t keys[KEYS]; } s;
+    uint32_t parts[PARTS] = {[DISK] = UNANSWERED};
     if (fread(&s, sizeof s, 1, stdin) != 1) return 0;
     memset(memory, 0, sizeof memory);
     machine = (Machine){.memory = memory, .sent = machine.sent, .sent_room = machine.sent_room};
-    set_parts(&machine, s.parts);
+    memcpy(parts, s.parts, sizeof s.parts);
+    set_parts(&machine, parts);
     memcpy(machine.keys, s.keys, sizeof s.keys);
     Event *events = malloc((s.inputs + 1) * sizeof *events);
     if (!events) die("no memory");

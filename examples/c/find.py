@@ -11,8 +11,8 @@ Words, Condition, Hit = ctypes.c_uint32 * WORDS, ctypes.c_uint32 * 4, ctypes.c_u
 library = ctypes.CDLL(sys.argv[1])
 library.galluspa_claim.restype = library.galluspa_find.restype = ctypes.c_uint8
 size, text = ctypes.c_size_t, Path(sys.argv[2]).read_bytes()
-# A galluspa_state is 136 bytes, and its first 8 are the count. The inputs, of 16 bytes each, come after the header and the pages.
-state, words = (ctypes.c_uint64 * 17)(), Words()
+# A galluspa_state is 144 bytes, and its first 8 are the count. The inputs, of 16 bytes each, come after the header and the pages.
+state, words = (ctypes.c_uint64 * 18)(), Words()
 pages, events, checkpoints = (int.from_bytes(text[at : at + 4], "little") for at in (8, 12, 16))
 inputs = ctypes.create_string_buffer(text[24 + 1024 * pages :][: 16 * events], 16 * events)
 

@@ -29,6 +29,7 @@ static void load(Side *side) {
     machine.n = s->flags >> 3 & 1; machine.z = s->flags >> 2 & 1; machine.c = s->flags >> 1 & 1; machine.v = s->flags & 1;
     machine.timer = s->timer; machine.rate = s->rate; machine.phase = s->phase; machine.switches = s->switches;
     machine.leds = s->leds; machine.mouse = s->mouse; machine.serial = s->serial; machine.waiting = s->key_count;
+    machine.disk = s->disk;
     memcpy(machine.r, s->r, sizeof machine.r);
     memcpy(machine.keys, s->keys, sizeof machine.keys);
     machine.memory = side->words; machine.sent = side->sent; machine.sent_room = SENT; machine.sent_length = 0;
@@ -39,7 +40,7 @@ static void seen(Side *side, uint64_t count) {
     galluspa_state s = {.count = count, .h = machine.h, .pc = machine.pc, .stop = machine.stop, .timer = machine.timer,
         .flags = (uint32_t)(machine.n << 3 | machine.z << 2 | machine.c << 1 | machine.v), .rate = machine.rate,
         .phase = machine.phase, .switches = machine.switches, .leds = machine.leds, .mouse = machine.mouse,
-        .serial = machine.serial, .key_count = machine.waiting};
+        .serial = machine.serial, .key_count = machine.waiting, .disk = machine.disk};
     memcpy(s.r, machine.r, sizeof s.r);
     memcpy(s.keys, machine.keys, machine.waiting);
     side->state = s;

@@ -16,6 +16,7 @@ static void load(void) {
     machine.n = state.flags >> 3 & 1; machine.z = state.flags >> 2 & 1; machine.c = state.flags >> 1 & 1; machine.v = state.flags & 1;
     machine.timer = state.timer; machine.rate = state.rate; machine.phase = state.phase; machine.switches = state.switches;
     machine.leds = state.leds; machine.mouse = state.mouse; machine.serial = state.serial; machine.waiting = state.key_count;
+    machine.disk = state.disk;
     memcpy(machine.r, state.r, sizeof machine.r);
     memcpy(machine.keys, state.keys, sizeof machine.keys);
     machine.memory = words;
@@ -26,7 +27,7 @@ static void seen(uint64_t count) {
     state = (galluspa_state){.count = count, .h = machine.h, .pc = machine.pc, .stop = machine.stop, .timer = machine.timer,
         .flags = (uint32_t)(machine.n << 3 | machine.z << 2 | machine.c << 1 | machine.v), .rate = machine.rate,
         .phase = machine.phase, .switches = machine.switches, .leds = machine.leds, .mouse = machine.mouse,
-        .serial = machine.serial, .key_count = machine.waiting};
+        .serial = machine.serial, .key_count = machine.waiting, .disk = machine.disk};
     memcpy(state.r, machine.r, sizeof state.r);
     memcpy(state.keys, machine.keys, machine.waiting);
 }

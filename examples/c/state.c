@@ -14,7 +14,7 @@ static void print(const Machine *m, const char *memory) {
     printf(", \"mouse\": %" PRIu32 ", \"serial\": %" PRIu32, m->mouse, m->serial);
     printf(", \"keys\": [");
     for (uint32_t i = 0; i < m->waiting; i++) printf("%s%d", i ? ", " : "", m->keys[i]);
-    printf("], \"out\": \"");
+    printf("], \"disk\": %" PRIu32 ", \"out\": \"", m->disk);
     for (size_t i = 0; i < m->sent_length; i++) printf("%02x", m->sent[i]);
     printf("\", \"memory\": \"%s\"}\n", memory);
 }
