@@ -485,7 +485,7 @@ static Event *events_of(const Program *program, uint64_t steps, size_t *many) {
 
 static int make(const Program *program, uint64_t steps, uint32_t segments, uint32_t rate) {
     static const uint32_t zeros[PAGES];
-    Machine m = {.memory = room_for(WORDS, 4), .rate = rate};
+    Machine m = {.memory = room_for(WORDS, 4), .rate = rate, .disk = UNANSWERED};
     Pool pool = {room_for((size_t)PAGE * MOST_PAGES, 4), room_for(WORDS, 4), 0};
     Checkpoint *list = room_for(segments + 1, sizeof *list);
     size_t many, next = 0;

@@ -1,6 +1,6 @@
 /* Reads and writes recordings of the machine in machine.h. It is written from docs/formats.md, as a witness of its own.
  *
- * Both versions are read and written. What is read is taken to be lawful: it is a yardstick, not a checker.
+ * All versions are read and written. What is read is taken to be lawful: it is a yardstick, not a checker.
  */
 #ifndef RECORDING_H
 #define RECORDING_H
@@ -10,10 +10,10 @@
 
 enum { HEADER_BYTES = 24, PAGE_BYTES = 4 * PAGE, EVENT_BYTES = 16 };
 /* The most that a recording has: pages of its pool, events, checkpoints with the initial state, and bytes sent. */
-enum { MOST_PAGES = 65536, MOST_EVENTS = 1000000, MOST_CHECKPOINTS = 4097, MOST_SENT = 1048576 };
+enum { MOST_PAGES = 65536, MOST_EVENTS = 4000000, MOST_CHECKPOINTS = 4097, MOST_SENT = 1048576 };
 /* Where a checkpoint has its keys, how much it sent, and, in version 2, the rate with the phase, how many changes there are, and
  * the changes; in version 1 the table comes in place of the last three. */
-enum { KEYS_AT = 112, SENT_AT = 128, TABLE_AT = 132, RATE_AT = 132, CHANGE_COUNT_AT = 140, CHANGES_AT = 144, CHANGE_BYTES = 8 };
+enum { KEYS_AT = 112, SENT_AT = 128, TABLE_AT = 132, RATE_AT = 132, CHANGE_COUNT_AT = 140, CHANGES_AT = 144, CHANGE_BYTES = 8, DISK_BYTES = 4 };
 
 /* A checkpoint: its count, the parts of its state in the order of parts_of, how many bytes it sent, and its pages' numbers. */
 typedef struct {
@@ -47,7 +47,8 @@ MAY_BE_UNUSED void read_words(uint32_t *words, const uint8_t *at, size_t many) {
 
 /* Where a checkpoint ends. */
 MAY_BE_UNUSED const uint8_t *end_of(const uint8_t *at, uint64_t version) {
-    return version == 1 ? at + TABLE_AT + 4 * PAGES : at + CHANGES_AT + CHANGE_BYTES * number(at + CHANGE_COUNT_AT, 4);
+    return version == 1 ? at + TABLE_AT + 4 * PAGES
+        : at + CHANGES_AT + CHANGE_BYTES * number(at + CHANGE_COUNT_AT, 4) + (version == 3 ? DISK_BYTES : 0);
 }
 
 /* Reads the checkpoint that comes next, over the one before it. */
@@ -56,13 +57,16 @@ MAY_BE_UNUSED void read_checkpoint(Recording *r) {
     Checkpoint *c = &r->now;
     c->count = number(at, 8);
     read_words(c->parts, at + 8, RATE);                                 /* R0 to the timer */
-    read_words(c->parts + PHASE + 1, at + 8 + 4 * RATE, PARTS - PHASE - 1); /* the switches to the number of keys */
+    read_words(c->parts + PHASE + 1, at + 8 + 4 * RATE, DISK - PHASE - 1); /* the switches to the number of keys */
+    c->parts[DISK] = UNANSWERED;
     memcpy(c->keys, at + KEYS_AT, KEYS);
     c->sent = (uint32_t)number(at + SENT_AT, 4);
     if (r->version == 1) read_words(c->table, at + TABLE_AT, PAGES);
     else {
         read_words(c->parts + RATE, at + RATE_AT, 2);
-        for (at += CHANGES_AT; at < end; at += CHANGE_BYTES) c->table[number(at, 4)] = (uint32_t)number(at + 4, 4);
+        const uint8_t *last = end - (r->version == 3 ? DISK_BYTES : 0);
+        for (at += CHANGES_AT; at < last; at += CHANGE_BYTES) c->table[number(at, 4)] = (uint32_t)number(at + 4, 4);
+        if (r->version == 3) c->parts[DISK] = (uint32_t)number(last, 4);
     }
     r->next = end;
 }
@@ -95,7 +99,7 @@ MAY_BE_UNUSED Recording open_recording(const uint8_t *bytes) {
 
 /* The bytes of a recording whose checkpoints change all of their tables: no recording with these numbers is longer. */
 MAY_BE_UNUSED size_t most_bytes(uint32_t version, size_t pages, size_t events, size_t checkpoints, size_t sent) {
-    size_t of_each = version == 1 ? TABLE_AT + 4 * PAGES : CHANGES_AT + CHANGE_BYTES * PAGES;
+    size_t of_each = version == 1 ? TABLE_AT + 4 * PAGES : CHANGES_AT + CHANGE_BYTES * PAGES + DISK_BYTES;
     return HEADER_BYTES + PAGE_BYTES * pages + EVENT_BYTES * events + of_each * checkpoints + sent;
 }
 
@@ -128,7 +132,7 @@ MAY_BE_UNUSED uint8_t *write_checkpoint(uint8_t *to, uint32_t version, const Che
     uint32_t changes = 0;
     to = write_number(to, c->count, 8);
     to = write_words(to, c->parts, RATE);
-    to = write_words(to, c->parts + PHASE + 1, PARTS - PHASE - 1);
+    to = write_words(to, c->parts + PHASE + 1, DISK - PHASE - 1);
     to = write_bytes(to, c->keys, KEYS);
     to = write_number(to, c->sent, 4);
     if (version == 1) return write_words(to, c->table, PAGES);
@@ -136,7 +140,7 @@ MAY_BE_UNUSED uint8_t *write_checkpoint(uint8_t *to, uint32_t version, const Che
     to = write_number(write_words(to, c->parts + RATE, 2), changes, 4);
     for (uint32_t p = 0; p < PAGES; p++)
         if (c->table[p] != before[p]) to = write_number(write_number(to, p, 4), c->table[p], 4);
-    return to;
+    return version == 3 ? write_number(to, c->parts[DISK], 4) : to;
 }
 
 #endif

@@ -9,7 +9,7 @@
 typedef void Run(Machine *m, const Event *events, size_t many, size_t *next, uint64_t from, uint64_t to);
 
 static const char *names[] = {"R0", "R1", "R2", "R3", "R4", "R5", "R6", "R7", "R8", "R9", "R10", "R11", "R12", "R13", "R14",
-    "R15", "H", "PC", "flags", "stop", "timer", "rate", "phase", "switches", "LEDs", "mouse", "serial", "keys"};
+    "R15", "H", "PC", "flags", "stop", "timer", "rate", "phase", "switches", "LEDs", "mouse", "serial", "keys", "disk"};
 
 static const uint32_t *page_of(const uint32_t *pool, uint32_t page_number) {
     static const uint32_t zeros[PAGE];
@@ -23,7 +23,7 @@ static int differs(const Machine *m, const Recording *r, uint32_t k) {
     char part[16] = "";
     parts_of(m, mine);
     for (int i = 0; i < PARTS && !*part; i++)
-        if (mine[i] != c->parts[i] || (i == PARTS - 1 && memcmp(m->keys, c->keys, KEYS))) strcpy(part, names[i]);
+        if (mine[i] != c->parts[i] || (i == DISK - 1 && memcmp(m->keys, c->keys, KEYS))) strcpy(part, names[i]);
     if (!*part && (m->sent_length != c->sent || (c->sent && memcmp(m->sent, r->output, c->sent)))) strcpy(part, "out");
     for (uint32_t p = 0; p < PAGES && !*part; p++)
         if (memcmp(m->memory + PAGE * p, page_of(r->pool, c->table[p]), PAGE_BYTES)) sprintf(part, "page %u", p);
@@ -42,7 +42,7 @@ static void begin(const Recording *r, Machine *m) {
 /* Prints the line of a recording, and returns 0 if it is accepted. */
 MAY_BE_UNUSED int replay(const uint8_t *text, Run *run) {
     Recording r = open_recording(text);
-    Machine m = {0};
+    Machine m = {.disk = UNANSWERED};
     begin(&r, &m);
     uint64_t at = 0;
     size_t next = 0;
