@@ -22,7 +22,7 @@ PARTS: dict[str, Sequence[str]] = {
     "inputs": (),
     "registers": (*states.REGISTERS, "H", "PC", "flags"),
     "stop": ("stop",),
-    "devices": ("timer", "rate", "phase", "switches", "LEDs", "mouse", "serial", "keys"),
+    "devices": ("timer", "rate", "phase", "switches", "LEDs", "mouse", "serial", "keys", "disk"),
     "out": ("out",),
     "screen": (),
     "memory": (),
@@ -132,11 +132,7 @@ def _separate(it: _Pair, slots: Sequence[int], only: Set[str]) -> Iterator[Found
             yield Found((f"  and {more:,} more page slots", "", ""), it.number)
     words = [word for slot in slots for word in _words(it, slot) if _is_dots(word.address)] if "screen" in only else []
     if words:
-        yield Found(
-            (f"  screen, {_dots(words)}", f"{words[0].old:08X}", f"{words[0].new:08X}"),
-            it.number,
-            words[0].address,
-        )
+        yield Found((f"  screen, {_dots(words)}", f"{words[0].old:08X}", f"{words[0].new:08X}"), it.number, words[0].address)
 
 
 def _words(it: _Pair, slot: int) -> Iterator[WordChange]:

@@ -46,6 +46,7 @@ BITS = {
     "LEDs": 0xFF,
     "mouse": MOUSE,
     "serial": 0x1FF,
+    "disk": WORD,
 }
 # What a condition may begin with, whatever the case of its letters, and what it is called.
 STARTS = {it.lower(): it for it in (*BITS, "PC", "store", "write", "writes", "load", "change", "sent", "input", "stop")}
@@ -54,7 +55,7 @@ DROPPED = "dropped"
 EVENTS = ("store", "write", "writes", "load", "change", "sent", "input", "stop")
 WANTED = (
     "expected PC=N; store, load or change with a PLACE; NAME=VALUE for R0 to R15, SP, LNK, H, flags, LEDs, switches, "
-    "mouse or serial; writes NAME, NAME is VALUE or ADDRESS is VALUE; a comparison such as R0 == 13; sent, input or stop"
+    "mouse, serial or disk; writes NAME, NAME is VALUE or ADDRESS is VALUE; a comparison such as R0 == 13; sent, input or stop"
 )
 NOT_SEARCHED = "no search finds this alone: join it by and to what one does, such as PC=N, store PLACE or R0 == 13"
 # What the help of a tool says of them.
@@ -64,13 +65,13 @@ A CONDITION holds at an instruction; if there are several, one of them has to ho
   store PLACE               the instruction stores to the place, whatever the value
   change PLACE [mask M]     the instruction changes a bit there; with a mask, one that M has in its word
   load PLACE                the instruction loads from the place
-  NAME=VALUE                R0 to R15, SP, LNK, H, flags (as NZ), LEDs, switches, mouse or serial becomes the value
+  NAME=VALUE                R0 to R15, SP, LNK, H, flags (as NZ), LEDs, switches, mouse, serial or disk becomes the value
   writes NAME               the instruction writes R0 to R15, SP, LNK, H or flags, whatever the value
   NAME is VALUES            R0 to R15, SP, LNK, H or flags has one of the VALUES before the instruction
   ADDRESS is VALUES         so has the word of memory
   VALUE == VALUE            values before the instruction compare so: also != < <= > >=, with not before it, or in brackets
   sent [BYTE]               the instruction sends a byte, or this byte
-  input [KIND]              the machine takes an input just before: timer, switches, mouse, key or serial
+  input [KIND]              the machine takes an input just before: timer, switches, mouse, key, serial or disk
   input dropped             it takes a key that it drops, since sixteen wait
   stop                      the instruction stops the machine
   A and B                   up to four of these hold at the same instruction; more comparisons may be joined to them

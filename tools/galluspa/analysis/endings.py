@@ -111,7 +111,7 @@ def _is_same(one: Machine, other: Machine) -> bool:
 def _parts(machine: Machine) -> Sequence[object]:
     it = machine.seen()
     timer = () if it.rate else (it.timer,)
-    return (it.registers, it.h, it.pc, it.flags, it.stop, it.switches, it.leds, it.mouse, it.serial, it.keys, *timer)
+    return (it.registers, it.h, it.pc, it.flags, it.stop, it.switches, it.leds, it.mouse, it.serial, it.keys, it.disk, *timer)
 
 
 def end_of(asked: argparse.Namespace, session: Session, end: str, most: int) -> int:

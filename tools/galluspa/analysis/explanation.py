@@ -18,7 +18,7 @@ from galluspa.engine.machine import Machine, Sent
 from galluspa.engine.program import Program
 from galluspa.engine.tracing import Run, Step, WordChange, differing, with_progress
 from galluspa.formats import states
-from galluspa.formats.recording import DISPLAY_END, DISPLAY_START, PAGE_BYTES, Checkpoint, Recording
+from galluspa.formats.recording import DISPLAY_END, DISPLAY_START, PAGE_BYTES, Recording
 from galluspa.formats.symbols import NONE, Symbols
 from galluspa.process.escapes import printable
 from galluspa.process.timelimit import TimeIsUp
@@ -159,7 +159,7 @@ def explain_false(run: Run, program: Program, read: Recording, claim: tuple[int,
         since=before.count,
         count=checkpoint.count,
         part=part,
-        parts=list(_differences(claimed.seen(), machine.seen())),
+        parts=[Difference(name, its, own) for name, own, its in states.changes(machine.seen(), claimed.seen())],
         words=words,
         sent=(out, sent),
         screens=_screens(program, claimed, machine),
@@ -197,14 +197,6 @@ def along(part: Part, value: Value, steps: Iterable[Step]) -> Iterator[tuple[Ste
         else:
             old, value = value, states.values(step.after)[part]
             yield step, value, value != old or part in step.written
-
-
-def _differences(claimed: Checkpoint, defined: Checkpoint) -> Iterator[Difference]:
-    ours = [*states.registers(defined, None), *states.others(defined, None, 2)]
-    theirs = [*states.registers(claimed, defined), *states.others(claimed, defined, 2)]
-    for part, other in zip(theirs, ours, strict=True):
-        if part.is_changed:
-            yield Difference(part.name, part.text, other.text)
 
 
 def _screens(program: Program, claimed: Machine, defined: Machine) -> Screens | None:

@@ -17,7 +17,7 @@ from galluspa.process.cli import Refused
 NAMED = {name: value & 0xFFFFFF for name, value in BUILT_IN.items()}
 # Registers by all their names, in capital letters, and the devices whose value a state has.
 REGISTER_NAMES = {**{name: name for name in REGISTERS}, "SP": "R14", "LNK": "R15", "H": "H", "PC": "PC", "FLAGS": "flags"}
-DEVICES = {it.upper(): it for it in ("timer", "switches", "LEDs", "mouse", "serial")}
+DEVICES = {it.upper(): it for it in ("timer", "switches", "LEDs", "mouse", "serial", "disk")}
 # The most characters of an expression, and the most brackets within one another.
 MOST_CHARACTERS, MOST_NESTED = 1000, 32
 # The number of characters that are shown before and after a mistake.
@@ -41,7 +41,7 @@ WANTED_ADDRESS = (
 )
 WANTED_SIGN = "expected + - * & | << >>, a comparison (== != < <= > >=), and, or"
 EXPRESSIONS = """\
-An EXPRESSION has registers (R0 to R15, SP, LNK, PC, H, flags), devices (timer, switches, LEDs, mouse, serial), numbers (16,
+An EXPRESSION has registers (R0 to R15, SP, LNK, PC, H, flags), devices (timer, switches, LEDs, mouse, serial, disk), numbers (16,
 0x10 or 10H), names, Mem[ADDRESS], a word of memory, and + - * & | << >>, from * to |, with brackets. The name of a variable
 is the word there, and &NAME its address; other names are addresses and constants. *ADDRESS is Mem[ADDRESS], of the whole sum
 after it. PC is a byte address. A CONDITION compares (== != < <= > >=) numbers with a sign, and has and, or, not; one that

@@ -24,7 +24,7 @@ from galluspa.process.timelimit import TimeIsUp
 LEAST_NAMED = 0x100
 STACK_WORDS = 16
 # The parts of a state besides the registers and the program counter, in the lines in which they are shown.
-DEVICES = (("timer", "rate", "phase"), ("switches", "LEDs", "mouse"), ("serial", "keys"))
+DEVICES = (("timer", "rate", "phase"), ("switches", "LEDs", "mouse"), ("serial", "keys", "disk"))
 # The screen as text: COARSE dots side by side are one dot of a character, which has two by four.
 COARSE, ACROSS, DOWN = 8, 2, 4
 BRAILLE = 0x2800
@@ -63,9 +63,9 @@ def register_lines(state: Checkpoint, symbols: Symbols) -> Iterator[str]:
 
 def device_lines(state: Checkpoint) -> Iterator[str]:
     """Yields the devices."""
-    texts = {part.name: part.text for part in states.others(state, None, 2)}
+    texts = states.texts(state)
     for names in DEVICES:
-        yield "  ".join(f"{name} {texts[name]}" for name in names)
+        yield "  ".join(f"{name} {texts[name]}" for name in names if name in texts)
 
 
 def memory_lines(machine: Machine, address: int, number: int, symbols: Symbols) -> Iterator[str]:

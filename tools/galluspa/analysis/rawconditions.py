@@ -43,6 +43,7 @@ WRITTEN = {
     "mouse": (Raw(TAKES, value=KIND_NUMBERS["mouse"]),),
     "serial": (Raw(TAKES, value=KIND_NUMBERS["serial"]), Raw(LOAD, SERIAL_AT, SERIAL_AT + 4)),
     "keys": (Raw(TAKES, value=KIND_NUMBERS["key"]), Raw(LOAD, KEYS_AT, KEYS_AT + 4)),
+    "disk": (Raw(TAKES, value=KIND_NUMBERS["disk"]),),
 }
 
 

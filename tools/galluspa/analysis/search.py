@@ -95,13 +95,7 @@ class Search:
     """A search for conditions, of which one has to hold, in a run from a count up to another."""
 
     def __init__(
-        self,
-        run: Run,
-        conditions: Sequence[Condition],
-        first: int,
-        to: int,
-        jobs: int = 1,
-        tell: Callable[[str], None] = progress,
+        self, run: Run, conditions: Sequence[Condition], first: int, to: int, jobs: int = 1, tell: Callable[[str], None] = progress
     ) -> None:
         """A search by a number of threads, which reports its progress."""
         self._run = run

@@ -35,7 +35,7 @@ from galluspa.process.cli import Refused
 NEAR = (1 << 10, 1 << 16, 1 << 22)
 SUMS_NEAR = (1 << 8, 1 << 12, 1 << 17)
 # The kinds of inputs that set the devices from which one loads.
-KINDS_OF = {"switches": "switches", "mouse": "mouse", "serial": "serial", "timer": "timer", "keys": "key"}
+KINDS_OF = {"switches": "switches", "mouse": "mouse", "serial": "serial", "timer": "timer", "keys": "key", "disk": "disk"}
 # The default number of links, and the most.
 LINKS, MOST_LINKS = 20, 200
 WANTED = "expected R0 to R15, SP, LNK, H, flags, LEDs, a word of memory or some of its bytes, *ADDRESS, or dot X,Y"

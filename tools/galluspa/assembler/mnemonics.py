@@ -38,11 +38,7 @@ def register_of(name: str) -> int | None:
 
 
 def operand_of(
-    tokens: Sequence[Token],
-    column: int,
-    names: Names,
-    here: int,
-    registers: Callable[[str], int | None] = register_of,
+    tokens: Sequence[Token], column: int, names: Names, here: int, registers: Callable[[str], int | None] = register_of
 ) -> Operand:
     """Returns the operand that tokens write; `column` is that of its end."""
     text = " ".join(token.text for token in tokens)

@@ -12,7 +12,7 @@ ESCAPES: dict[str, int] = LANGUAGE["escapes"]
 PATTERN = re.compile(
     r"""(?P<space>[ \t\r\f]+)|(?P<comment>;.*)|(?P<name>[A-Za-z_][A-Za-z0-9_]*(?:\.[A-Za-z_][A-Za-z0-9_]*+)*+'?)"""
     r"""|(?P<number>[0-9][0-9A-Za-z_]*)"""
-    r"""|(?P<character>'(?:\\.[0-9A-Fa-f]{0,2}|[^'\\])')|(?P<string>"[^"\\]*+(?:\\.[^"\\]*+)*+")|(?P<mark>[:,=+\-*/%()$])""",
+    r"""|(?P<character>'(?:\\.[0-9A-Fa-f]{0,2}|[^'\\])')|(?P<string>"[^"\\]*+(?:\\.[^"\\]*+)*+")|(?P<mark>[:,=+\-*/%()$])"""
 )
 # A hexadecimal number as other assemblers write it: no expression has $, the address here, and digits after it.
 DOLLAR = re.compile(r"\$(?P<digits>[0-9A-Fa-f]+)(?![0-9A-Za-z_])")

@@ -23,7 +23,7 @@ def parser() -> Parser:
         "--set",
         metavar="NAME=VALUE",
         required=True,
-        help="R0 to R15, H, PC, flags, stop, timer, rate, phase, switches, LEDs, mouse or serial, and " "what it claims",
+        help="R0 to R15, H, PC, flags, stop, timer, rate, phase, switches, LEDs, mouse, serial or disk, and what it claims",
     )
     options.add_output_option()
     options.add_program_option()
@@ -48,8 +48,9 @@ def main(asked: Namespace) -> int:
     if name not in (*REGISTERS, *WORDS) or value is None or value >= 1 << 32:
         names = ", ".join((*REGISTERS, *WORDS))
         raise Refused(f"--set {asked.set}: give one of {names}, an equals sign and a number below 2^32")
-    if read.version == 1 and name in ("rate", "phase"):
-        raise Refused(f"{asked.recording}: a recording of version 1 claims no {name} " "(galluspa migrate makes version 2)")
+    if read.version < {"rate": 2, "phase": 2, "disk": 3}.get(name, 1):
+        hint = " (galluspa migrate makes version 2)" if name != "disk" else ""
+        raise Refused(f"{asked.recording}: a recording of version {read.version} claims no {name}{hint}")
     if asked.at >= len(read.checkpoints):
         raise Refused(f"{asked.recording}: no checkpoint {asked.at}")
     read.checkpoints[asked.at] = claiming(read.checkpoints[asked.at], name, value)

@@ -72,7 +72,7 @@ class Finding:
         """Returns a source of the instructions, with what they begin with as comments."""
         trial, read = self.trial, recording.read(self.recording)
         first = read.checkpoints[0]
-        parts = [f"{part.name} {part.text}" for part in (*states.registers(first, None), *states.others(first, None, 2))]
+        parts = [f"{name} {text}" for name, text in states.texts(first).items()]
         begin = [f"; {', '.join(parts[at : at + 8])}" for at in range(0, len(parts), 8)]
         inputs = [f"; input at {event.count}: {states.event(event)}" for event in trial.inputs]
         return "\n".join([*begin, *inputs, f"        origin 0x{4 * trial.pc:X}", *_source(read, trial)]) + "\n"

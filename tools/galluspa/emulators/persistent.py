@@ -26,7 +26,7 @@ KEYS, KEYS_AT = struct.Struct("<I"), 27 * 4
 NUMBERS = 1 << 32
 PLACED = struct.Struct(f"<I{PAGE_BYTES}s")
 AT_ONCE = 1 << 16
-STATE_PARTS = (*states.REGISTERS, *states.WORDS)
+STATE_PARTS = (*states.REGISTERS, *(name for name in states.WORDS if name != "disk"))
 # Exit timeout, in seconds.
 ENDING_SECONDS = 1.0
 

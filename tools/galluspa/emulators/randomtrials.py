@@ -158,7 +158,7 @@ class _Batch:
         return [Event(each, KIND_NUMBERS["key"], rng.randrange(256)) for each in at]
 
     def _input(self, count: int) -> Event:
-        name = self.rng.choice(tuple(MOST))
+        name = self.rng.choice([kind for kind in MOST if kind != "disk"])
         value = self.rng.randrange(MOST[name] + 1)
         if name == "timer" and self.rng.random() < 0.5:
             value = self.rng.choice(TIMES)

@@ -5,7 +5,7 @@ from collections.abc import Callable, Mapping, Sequence
 from dataclasses import dataclass, replace
 from typing import TypeVar
 
-from galluspa.emulators.trials import Trial
+from galluspa.emulators.trials import NO_DISK, Trial
 from galluspa.engine.library import Library
 from galluspa.engine.machine import Inputs, Machine
 from galluspa.engine.structures import RawState, Words
@@ -34,7 +34,7 @@ def needed(items: Sequence[T], is_still: Callable[[list[T]], bool]) -> list[T]:
 
 def machine_of(library: Library, trial: Trial, count: int) -> Machine:
     """Returns the proved machine in the run of a trial, at a count."""
-    raw = RawState.from_buffer_copy(bytes(8) + trial.state())
+    raw = RawState.from_buffer_copy(bytes(8) + trial.state() + NO_DISK)
     memory = trial.memory()
     machine = Machine(raw, Words.from_buffer_copy(memory.ljust(MEMORY_BYTES, b"\0")))
     library.advance(machine, Inputs(trial.inputs), count)

@@ -9,7 +9,7 @@ from typing import Protocol
 
 from galluspa.emulators.oneshot import PLACE, Emulator, Shown, has
 from galluspa.emulators.persistent import Answer, KeptEmulator
-from galluspa.emulators.trials import Trial
+from galluspa.emulators.trials import NO_DISK, Trial
 from galluspa.engine.library import Library
 from galluspa.engine.machine import Inputs, Machine, Sent
 from galluspa.engine.structures import RawState, Words
@@ -121,7 +121,7 @@ class TrialRunner:
 
     def run(self, trial: Trial) -> Sent:
         """Runs the proved machine to the end of a trial."""
-        self._raw[:] = bytes(COUNT_BYTES) + trial.state()
+        self._raw[:] = bytes(COUNT_BYTES) + trial.state() + NO_DISK
         for slot, page in trial.pages.items():
             self._memory[slot * PAGE_BYTES : (slot + 1) * PAGE_BYTES] = page
         sent = self.library.advance(self._machine, Inputs(trial.inputs), trial.count)
@@ -131,7 +131,7 @@ class TrialRunner:
 
     def _is_same(self, answer: Answer, sent: Sent) -> bool:
         """Returns whether all parts are the same; then the memory is that of zeros again."""
-        if answer.sent != sent.first or answer.state != self._raw[COUNT_BYTES:]:
+        if answer.sent != sent.first or answer.state != self._raw[COUNT_BYTES : -len(NO_DISK)]:
             return False
         memory = self._memory
         if any(memory[slot * PAGE_BYTES : (slot + 1) * PAGE_BYTES] != page for slot, page in answer.pages.items()):

@@ -5,7 +5,7 @@ from collections.abc import Mapping, Sequence
 from dataclasses import dataclass, replace
 
 from galluspa.formats.devicewords import RECEIVED
-from galluspa.formats.recording import NO_PAGE, PAGE_BYTES, Checkpoint, Event
+from galluspa.formats.recording import NO_PAGE, PAGE_BYTES, UNANSWERED, Checkpoint, Event
 from galluspa.formats.sessions import KIND_NUMBERS, Session, numbers_of
 
 # What a kept emulator is sent of a trial: its number, how many instructions, inputs and pages; and the parts of its state,
@@ -15,6 +15,8 @@ STATE = struct.Struct("<28I16s")
 INPUT = struct.Struct("<3I")
 SLOT = struct.Struct("<I")
 NO_KEYS = bytes(16)
+# What follows in a state of the library: no disk has answered.
+NO_DISK = struct.pack("<2I", UNANSWERED, 0)
 
 
 @dataclass(frozen=True)
@@ -59,6 +61,7 @@ class Trial:
         first = [(name, value) for name, value in devices.items() if value]
         first += [("key", key) for key in state.keys]
         first += [("serial", state.serial - RECEIVED)] if state.serial else []
+        first += [("disk", state.disk)] if state.disk != UNANSWERED else []
         due = [event for event in self.inputs if state.count <= event.count < self.count]
         pages = (memory[at : at + PAGE_BYTES] for at in range(0, len(memory), PAGE_BYTES))
         return Trial(

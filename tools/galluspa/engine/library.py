@@ -153,13 +153,7 @@ class Library:
         and the index of the first that does; None if none holds. One call takes all of this: so give it a slice."""
         due, hit = inputs.raw(machine.count, to), RawHit()
         code = self._code(
-            to - machine.count,
-            self.calls.galluspa_find,
-            *_start(machine, due),
-            to,
-            *_sized(conditions),
-            wanted,
-            ctypes.byref(hit),
+            to - machine.count, self.calls.galluspa_find, *_start(machine, due), to, *_sized(conditions), wanted, ctypes.byref(hit)
         )
         if code == NOT_FOUND:
             return None
@@ -196,12 +190,7 @@ class Library:
         visits, departures = (Counts.from_buffer(it) for it in (counted.visits, counted.departures))
         due = inputs.raw(machine.count, to)
         code = self._code(
-            to - machine.count,
-            self.calls.galluspa_profile,
-            *_start(machine, due),
-            to,
-            *_sized(visits),
-            *_sized(departures),
+            to - machine.count, self.calls.galluspa_profile, *_start(machine, due), to, *_sized(visits), *_sized(departures)
         )
         if code:
             raise _refusal(f"cannot count from {machine.count} to {to}", code)
@@ -254,14 +243,7 @@ class Library:
         due, length = inputs.raw(machine.count, to), SIZE()
         # What a thread works on is left to it, if a signal or the limit of time comes first.
         there = machine.copy() if steps > MOST_STEPS else machine
-        code = self._code(
-            steps,
-            self.calls.galluspa_advance,
-            *_start(there, due),
-            to,
-            *_sized(room),
-            ctypes.byref(length),
-        )
+        code = self._code(steps, self.calls.galluspa_advance, *_start(there, due), to, *_sized(room), ctypes.byref(length))
         if code == NO_ROOM and steps > len(room):
             return None
         if code:

@@ -76,7 +76,7 @@ class Machine:
             if page:
                 memory[slot * PAGE_BYTES : (slot + 1) * PAGE_BYTES] = read.page(page)
         state = RawState(it.count, it.registers, key_count=len(it.keys), keys=tuple(it.keys))
-        for name in (*STATE_WORDS, "rate", "phase"):
+        for name in (*STATE_WORDS, "rate", "phase", "disk"):
             setattr(state, name, getattr(it, name))
         return Machine(state, words)
 
@@ -101,7 +101,7 @@ class Machine:
         return Checkpoint(
             count=it.count,
             registers=tuple(it.r),
-            **{name: getattr(it, name) for name in (*STATE_WORDS, "rate", "phase")},
+            **{name: getattr(it, name) for name in (*STATE_WORDS, "rate", "phase", "disk")},
             keys=bytes(it.keys[: it.key_count]),
             output=sent,
             table=array("I"),

@@ -18,6 +18,8 @@ ACCEPTED = 0
 FALSE = 1
 REFUSED = 2
 WORDS_REFUSED = 4
+# The commands that take version 3.
+WITH_DISK = ("check", "screen", "migrate", "record")
 # The most workers of a check, and the default.
 MOST_WORKERS = 64
 WORKERS = min(os.cpu_count() or 1, MOST_WORKERS)
@@ -25,6 +27,8 @@ WORKERS = min(os.cpu_count() or 1, MOST_WORKERS)
 _FALSE_LINE = re.compile(r"false checkpoint (\d+) at \d+ part (.+)")
 _REFUSED_LINE = re.compile(r"refused (\d+) \w+ at byte (\d+)")
 _SESSION_LINE = re.compile(r"session refused (\d+) \w+")
+# How a recording of version 3 begins, or how a session says it: the program takes these by a word of its own.
+_VERSION_3 = re.compile(rb'\AORSR\x03\0\0\0|\A(?!ORSR).*?"version"\s*:\s*3\b', re.DOTALL)
 
 
 @dataclass(frozen=True)
@@ -121,7 +125,9 @@ class Program:
     def answer(self, words: Sequence[str], given: bytes | BinaryIO) -> Answer:
         """Returns what the program answers to any arguments and any input."""
         try:
-            ended = children.output_of([self.path, *words], given, limit=self.limit, most=MOST)
+            begins = given if isinstance(given, bytes) else os.pread(given.fileno(), 8, 0) if given.seekable() else b""
+            disk = ["--disk"] if words[0] in WITH_DISK and _VERSION_3.search(begins) else []
+            ended = children.output_of([self.path, *words, *disk], given, limit=self.limit, most=MOST)
         except OSError as error:
             raise Refused(f"{self.path}: {error.strerror}") from error
         except children.TooLong as error:

@@ -18,14 +18,14 @@ APART = 1 << 13
 FIRST_BATCH, MOST_RECORDED = 1 << 10, 1 << 15
 # The places of the program counter and of the stop in a processor: R0 to R15, H, the program counter, the flags and the stop.
 PC, STOP = 17, 19
-# A state as include/galluspa.h lays it out: the count, the processor, the devices, how many key codes there are, and these.
-STATE = "Q20I8I16s"
+# A state as include/galluspa.h lays it out: the count, the processor, the devices, how many keys there are, these, and the disk.
+STATE = "Q20I8I16sI4x"
 # What comes after it in a record: the inputs; the word, the address, the old value, the new one and the byte that is sent;
 # whether there is a word, how many bytes are accessed, whether they are stored, and whether a byte is sent.
 EFFECT = "2Q5I4B"
 # A record, and the state of the next one.
 ROW = struct.Struct(f"<{STATE}{EFFECT}{STATE}")
-BEFORE, INPUTS, AFTER = 0, 30, 41
+BEFORE, INPUTS, AFTER = 0, 31, 42
 RECORD_BYTES = struct.calcsize(f"<{STATE}{EFFECT}")
 STORES_AT = RECORD_BYTES - 2
 BYTE = 0xFF
@@ -45,6 +45,7 @@ class Devices(NamedTuple):
     mouse: int
     serial: int
     keys: bytes
+    disk: int
 
 
 class RawStep(NamedTuple):
@@ -121,15 +122,15 @@ class _Recorded:
             place = count - first_count
             row = unpack(rows, RECORD_BYTES * place)
             first, taken, word, address, old, new, sent, has_word, length, stores, sends = row[INPUTS:AFTER]
-            devices = _devices(row[BEFORE + 21 : BEFORE + 30])
-            is_same = row[BEFORE + 21 : BEFORE + 30] == row[AFTER + 21 : AFTER + 30]
+            devices = _devices(row[BEFORE + 21 : INPUTS])
+            is_same = row[BEFORE + 21 : INPUTS] == row[AFTER + 21 : AFTER + INPUTS]
             yield RawStep(
                 count,
                 word if has_word else None,
                 row[BEFORE + 1 : BEFORE + 21],
                 row[AFTER + 1 : AFTER + 21],
                 devices,
-                devices if is_same else _devices(row[AFTER + 21 : AFTER + 30]),
+                devices if is_same else _devices(row[AFTER + 21 : AFTER + INPUTS]),
                 self._inputs[first : first + taken] if taken else (),
                 self._change(place, address, old, new, length) if stores and address < MEMORY_BYTES else None,
                 sent if sends else None,
@@ -157,6 +158,6 @@ class _Recorded:
 
 
 def _devices(numbers: Sequence) -> Devices:
-    """Returns the devices of a state, after which come how many key codes there are, and these."""
-    *parts, number, keys = numbers
-    return Devices._make((*parts, keys[:number]))
+    """Returns the devices of a state: parts, how many key codes there are, these, and the disk's answer."""
+    *parts, number, keys, disk = numbers
+    return Devices._make((*parts, keys[:number], disk))

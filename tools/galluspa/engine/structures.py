@@ -17,6 +17,7 @@ class RawState(ctypes.Structure):
         *((name, ctypes.c_uint32) for name in ("h", "pc", "flags", "stop", "timer", "rate", "phase", "switches", "leds")),
         *((name, ctypes.c_uint32) for name in ("mouse", "serial", "key_count")),
         ("keys", ctypes.c_uint8 * 16),
+        *((name, ctypes.c_uint32) for name in ("disk", "reserved")),
     ]
 
 

@@ -22,17 +22,13 @@ from galluspa.formats.recording import (
     PAGE_BYTES,
     PLACES,
     TABLE_BYTES,
+    WORD,
 )
-from galluspa.formats.sessions import CHECKPOINTS, COUNTS, INPUTS
+from galluspa.formats.sessions import CHECKPOINTS, COUNTS, INPUTS, INPUTS_WITH_DISK, MOST
 
 WHOLE_BYTES = FIXED_BYTES + TABLE_BYTES
-RANGES = {
-    1: (0xFFFFFFFF, "any word"),
-    2: (4095, "below 4,096"),
-    3: (MOUSE, "inside the mask 073FF3FF"),
-    4: (255, "below 256"),
-    5: (255, "below 256"),
-}
+# The values of some kinds of events, by the most that they may be.
+RANGES = {WORD: "any word", MOUSE: "inside the mask 073FF3FF"}
 
 
 @dataclass(frozen=True)
@@ -98,13 +94,13 @@ def _magic(text: bytes, at: int) -> Fault:
 
 
 def _version(text: bytes, at: int) -> Fault:
-    return Fault("the version", at, text[4:8], "the version is 1 or 2")
+    return Fault("the version", at, text[4:8], "the version is 1, 2 or 3")
 
 
 def _limit(text: bytes, at: int) -> Fault:
     rules = {
         8: ("P, the number of pages", f"P is at most {MOST_PAGES:,}"),
-        12: ("E, the number of events", f"E is at most {INPUTS:,}"),
+        12: ("E, the number of events", f"E is at most {INPUTS_WITH_DISK if _number(text, 4) == 3 else INPUTS:,}"),
         16: ("K + 1, the number of checkpoints with the initial state", f"K + 1 is from 1 to {CHECKPOINTS + 1:,}"),
         20: ("the last field of the header", "the last field of the header is 0"),
     }
@@ -115,7 +111,9 @@ def _limit(text: bytes, at: int) -> Fault:
 def _event(text: bytes, at: int) -> Fault:
     number = (at - HEADER_BYTES - PAGE_BYTES * _number(text, 8)) // EVENT_BYTES
     least = _number(text, at - EVENT_BYTES, 8) if number else 0
-    most, rule = RANGES.get(_number(text, at + 8), (0, ""))
+    name = KINDS.get(_number(text, at + 8), "")
+    most = MOST.get(name, 0)
+    last, kinds = (6, "5 serial or 6 disk") if _number(text, 4) == 3 else (5, "or 5 serial")
     field = _first_broken(
         text,
         [
@@ -126,12 +124,12 @@ def _event(text: bytes, at: int) -> Fault:
                 f"a count is at most 2^40, and not below that of the event before, {least}",
                 lambda count: least <= count <= COUNTS,
             ),
-            Field("the kind", at + 8, 4, "a kind is 1 timer, 2 switches, 3 mouse, 4 key or 5 serial", lambda kind: kind in KINDS),
+            Field("the kind", at + 8, 4, f"a kind is 1 timer, 2 switches, 3 mouse, 4 key, {kinds}", lambda kind: 1 <= kind <= last),
             Field(
                 "the value",
                 at + 12,
                 4,
-                f"the value of a {KINDS.get(_number(text, at + 8))} event is {rule}",
+                f"the value of a {name} event is {RANGES.get(most, f'below {most + 1:,}')}",
                 lambda value: value <= most and not value & ~most,
             ),
         ],
@@ -163,8 +161,9 @@ def _claims(text: bytes) -> Iterator[_Claim]:
 
 
 def _changed_bytes(text: bytes, start: int) -> int:
-    """Returns how many bytes a checkpoint of version 2 has."""
-    return CHANGES_AT + CHANGE_BYTES * _number(text, start + OFFSETS["change_count"])
+    """Returns how many bytes a checkpoint of version 2 or 3 has."""
+    disk = 4 if _number(text, 4) == 3 else 0
+    return CHANGES_AT + CHANGE_BYTES * _number(text, start + OFFSETS["change_count"]) + disk
 
 
 def _checkpoint(text: bytes, at: int) -> Fault:
@@ -213,7 +212,7 @@ def _fields(text: bytes, claim: _Claim) -> Iterator[Field]:
         else f"the output lengths up to here are at most {MOST_SENT:,} in all; before it they are {claim.sent}",
         _up_to(0 if is_first else MOST_SENT - claim.sent),
     )
-    if _number(text, 4) == 2:
+    if _number(text, 4) > 1:
         rate = _number(text, claim.start + OFFSETS["rate"])
         yield field("phase", "phase", 4, f"phase is below the rate, {rate}, or 0 if that is 0", _up_to(max(rate, 1) - 1))
         yield field("the number of changes", "change_count", 4, "there are at most 1,024 changes", _up_to(PLACES))

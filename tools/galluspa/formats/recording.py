@@ -1,4 +1,4 @@
-"""Decodes and encodes recordings in versions 1 and 2, as docs/formats.md specifies them.
+"""Decodes and encodes recordings in versions 1 to 3, as docs/formats.md specifies them.
 
 Only the program says whether bytes are a valid recording: ask it first (`Program.decoded` does). Bytes that the program would
 refuse are refused here too, or decoded in some way, but never with a traceback. The encoded bytes are valid if the
@@ -8,9 +8,10 @@ numbers are.
 import struct
 import sys
 from array import array
-from collections.abc import Iterator, Mapping, Sequence
+from collections.abc import Mapping, Sequence
 from dataclasses import dataclass, field, replace
 from itertools import accumulate
+from typing import Any
 
 from galluspa.process.cli import Refused
 
@@ -29,16 +30,16 @@ DISPLAY_END = 0xFFF00
 # Where the first page begins that has a part of the display.
 DISPLAY_PAGES = DISPLAY_START // PAGE_BYTES * PAGE_BYTES
 
-KINDS = {1: "timer", 2: "switches", 3: "mouse", 4: "key", 5: "serial"}
+KINDS = {1: "timer", 2: "switches", 3: "mouse", 4: "key", 5: "serial", 6: "disk"}
 STOPS = ("running", "float", "divisor", "fetch", "address")
 FLAGS = "NZCV"
 
 _HEADER = struct.Struct("<4s5I")
 _EVENT = struct.Struct("<QII")
 
-# The fields of a checkpoint in the order in which they are encoded: those of both versions, among them a word for
-# each of STATE_WORDS, and those of version 2 alone. The table follows the first of these in version 1, and its
-# changes follow both in version 2.
+# The fields of a checkpoint in the order in which they are encoded: those of all versions, among them a word for
+# each of STATE_WORDS, and those of versions 2 and 3 alone. The table follows the first of these in version 1, and its
+# changes follow both later; in version 3 the disk's answer follows the changes.
 STATE_WORDS = ("h", "pc", "flags", "stop", "timer", "switches", "leds", "mouse", "serial")
 _FIXED_FIELDS = {
     "count": "Q",
@@ -52,6 +53,8 @@ _TIMER_FIELDS = {"rate": "I", "phase": "I", "change_count": "I"}
 _FIXED, _TIMER = (struct.Struct("<" + "".join(fields.values())) for fields in (_FIXED_FIELDS, _TIMER_FIELDS))
 
 HEADER_BYTES, EVENT_BYTES, CHANGE_BYTES, TABLE_BYTES = _HEADER.size, _EVENT.size, 8, 4 * PLACES
+# What device word 4 reads before the disk's first answer, and the field of its last one.
+UNANSWERED, _DISK = 255, struct.Struct("<I")
 FIXED_BYTES = _FIXED.size
 CHANGES_AT = FIXED_BYTES + _TIMER.size
 _FORMATS = {**_FIXED_FIELDS, **_TIMER_FIELDS}
@@ -60,7 +63,7 @@ OFFSETS = dict(zip(_FORMATS, accumulate((struct.calcsize(f"<{it}") for it in _FO
 
 @dataclass(frozen=True)
 class Event:
-    """An input: the count of the instruction before which it is taken, its kind (1 to 5) and its value."""
+    """An input: the count of the instruction before which it is taken, its kind (1 to 6) and its value."""
 
     count: int
     kind: int
@@ -71,8 +74,8 @@ class Event:
 class Checkpoint:
     """What is claimed of the machine at a count, with the bytes sent since the checkpoint before.
 
-    A recording of version 1 has rate and phase 0. `start` is the offset of its first byte in the text that it was read
-    from.
+    A recording of version 1 has rate and phase 0, and only one of version 3 answers of a disk. `start` is the offset of its
+    first byte in the text that it was read from.
     """
 
     count: int
@@ -89,6 +92,7 @@ class Checkpoint:
     mouse: int = 0
     serial: int = 0
     keys: bytes = b""
+    disk: int = UNANSWERED
     output: bytes = b""
     table: array = field(default_factory=lambda: NO_TABLE)
     start: int = 0
@@ -143,7 +147,7 @@ def read(text: bytes) -> Recording:
 
 def _read(text: bytes) -> Recording:
     magic, version, pages, events, checkpoints, _ = _HEADER.unpack_from(text)
-    if magic != b"ORSR" or version not in (1, 2):
+    if magic != b"ORSR" or version not in (1, 2, 3):
         raise ValueError
     pool_end = _HEADER.size + pages * PAGE_BYTES
     events_end = pool_end + events * _EVENT.size
@@ -151,38 +155,32 @@ def _read(text: bytes) -> Recording:
         version=version,
         pool=memoryview(text)[_HEADER.size : pool_end],
         events=[Event(*fields) for fields in _EVENT.iter_unpack(text[pool_end:events_end])],
-        checkpoints=list(_with_output(text, _claims(text, version, events_end, checkpoints))),
+        checkpoints=_checkpoints(text, version, events_end, checkpoints),
     )
 
 
-@dataclass(frozen=True)
-class _Claim:
-    """A checkpoint as its fields say it, and where the next one begins."""
-
-    start: int
-    fields: tuple
-    rate: int
-    phase: int
-    table: array
-    end: int
-
-
-def _claims(text: bytes, version: int, start: int, number: int) -> list[_Claim]:
-    table = NO_TABLE
-    claims = []
+def _checkpoints(text: bytes, version: int, start: int, number: int) -> list[Checkpoint]:
+    """Returns the checkpoints from an offset on, with what they say was sent, which comes after the last of them."""
+    claims, lengths, table = list[Checkpoint](), list[int](), NO_TABLE
     for _ in range(number):
+        count, *numbers, key_count, keys, length = _FIXED.unpack_from(text, start)
+        rate, phase, disk, end = 0, 0, UNANSWERED, start + FIXED_BYTES + TABLE_BYTES
         if version == 1:
-            rate, phase, end = 0, 0, start + FIXED_BYTES + TABLE_BYTES
             table = _words(text[start + FIXED_BYTES : end])
         else:
             rate, phase, changes = _TIMER.unpack_from(text, start + FIXED_BYTES)
             end = start + CHANGES_AT + CHANGE_BYTES * changes
             table = _changed(table, _words(text[start + CHANGES_AT : end]))
+        if version == 3:
+            (disk,), end = _DISK.unpack_from(text, end), end + _DISK.size
         if end > len(text):
             raise ValueError
-        claims.append(_Claim(start, _FIXED.unpack_from(text, start), rate, phase, table, end))
+        words: dict[str, Any] = {**dict(zip(STATE_WORDS, numbers[16:])), "rate": rate, "phase": phase, "disk": disk}
+        claims.append(Checkpoint(count, tuple(numbers[:16]), keys=keys[:key_count], table=table, start=start, **words))
+        lengths.append(length)
         start = end
-    return claims
+    ends = [*accumulate(lengths, initial=start)]
+    return [replace(claim, output=text[sent:end]) for claim, sent, end in zip(claims, ends, ends[1:])]
 
 
 def _words(text: bytes) -> array:
@@ -202,26 +200,8 @@ def _changed(table: array, changes: array) -> array:
     return after
 
 
-def _with_output(text: bytes, claims: list[_Claim]) -> Iterator[Checkpoint]:
-    sent = claims[-1].end
-    for claim in claims:
-        count, *numbers, key_count, keys, length = claim.fields
-        yield Checkpoint(
-            count=count,
-            registers=tuple(numbers[:16]),
-            **dict(zip(STATE_WORDS, numbers[16:], strict=True)),
-            rate=claim.rate,
-            phase=claim.phase,
-            keys=keys[:key_count],
-            output=text[sent : sent + length],
-            table=claim.table,
-            start=claim.start,
-        )
-        sent += length
-
-
 def write(recording: Recording) -> bytes:
-    """Encodes a recording in its version; version 1 has no fields for rate and phase."""
+    """Encodes a recording in its version; version 1 has no fields for rate and phase, and only version 3 one for the disk."""
     header = _HEADER.pack(b"ORSR", recording.version, recording.pages, len(recording.events), len(recording.checkpoints), 0)
     events = [_EVENT.pack(event.count, event.kind, event.value) for event in recording.events]
     claims, before = [], NO_TABLE
@@ -230,6 +210,11 @@ def write(recording: Recording) -> bytes:
         before = checkpoint.table
     output = [checkpoint.output for checkpoint in recording.checkpoints]
     return b"".join([header, recording.pool, *events, *claims, *output])
+
+
+def version_of(events: Sequence[Event], checkpoints: Sequence[Checkpoint]) -> int:
+    """Returns the version of the recording of these: 3 if a disk answers, else 2."""
+    return 3 if any(it.disk != UNANSWERED for it in checkpoints) or any(KINDS[it.kind] == "disk" for it in events) else 2
 
 
 def page_of(*words: int) -> bytes:
@@ -260,13 +245,14 @@ def _fixed_fields(checkpoint: Checkpoint) -> bytes:
 
 
 def _memory_fields(version: int, checkpoint: Checkpoint, before: array) -> bytes:
-    """Returns the whole table; or rate, phase and the changes of the table before."""
+    """Returns the whole table; or rate, phase, the changes of the table before, and in version 3 the disk's answer."""
     after = checkpoint.table
     if version == 1:
         return _bytes(after)
     slots = [] if after == before else [at for at in range(PLACES) if after[at] != before[at]]
     changes = [number for at in slots for number in (at, after[at])]
-    return _TIMER.pack(checkpoint.rate, checkpoint.phase, len(slots)) + _bytes(changes)
+    answer = _DISK.pack(checkpoint.disk) if version == 3 else b""
+    return _TIMER.pack(checkpoint.rate, checkpoint.phase, len(slots)) + _bytes(changes) + answer
 
 
 def _bytes(words: Sequence[int]) -> bytes:

@@ -11,7 +11,7 @@ from dataclasses import dataclass
 from typing import Any, NoReturn
 
 from galluspa.formats.recording import MOUSE, PLACES, WORD
-from galluspa.formats.sessions import CHECKPOINTS, COUNTS, INPUTS, MOST
+from galluspa.formats.sessions import CHECKPOINTS, COUNTS, INPUTS, INPUTS_WITH_DISK, MOST
 from galluspa.formats.states import REGISTERS
 from galluspa.process.escapes import printable
 
@@ -21,7 +21,11 @@ NUMBER = (1 << 64) - 1
 MEMBERS = ("format", "version", "start", "pages", "inputs", "checkpoints")
 # The most of each sign in a session whose members are named once: an object for each page, an array for
 # each input, and some more. A text with more is not taken apart here, as that wants much memory.
-SIGNS = {"{": (PLACES + 2, "objects"), "[": (INPUTS + 4, "arrays"), '"': (2 * INPUTS + 10 * PLACES, "quotation marks")}
+SIGNS = {
+    "{": (PLACES + 2, "objects"),
+    "[": (INPUTS_WITH_DISK + 4, "arrays"),
+    '"': (2 * INPUTS_WITH_DISK + 10 * PLACES, "quotation marks"),
+}
 # A string, or one without its end up to that of the text; a sign that nests; or what is between these. Each sign of a
 # text is in one of them, so none is read twice. A repetition that gives nothing back (`*+`) keeps nothing of what it passed.
 TOKEN = re.compile(r'"[^"\\]*+(?:\\.[^"\\]*+)*+(?:"|\\?\Z)|[][{}]|[^][{}"]+', re.DOTALL)
@@ -141,14 +145,14 @@ def _shape(session: Any) -> Iterator[Broken]:
     yield from _members("the session", session, MEMBERS)
     if session["format"] != "oberon-session":
         yield Broken("format", _shown(session["format"]), 'format is "oberon-session"')
-    if not _is_number(session["version"]) or session["version"] not in (1, 2):
-        yield Broken("version", _shown(session["version"]), "version is 1 or 2")
-    timer = ("rate", "phase") if session["version"] == 2 else ()
-    yield from _members("start", session["start"], ("R", "H", "PC", "flags", *timer))
+    if not _is_number(session["version"]) or session["version"] not in (1, 2, 3):
+        yield Broken("version", _shown(session["version"]), "version is 1, 2 or 3")
+    devices = ("rate", "phase", "disk")[: (0, 2, 3)[session["version"] - 1]]
+    yield from _members("start", session["start"], ("R", "H", "PC", "flags", *devices))
     yield from _numbers("start.R", session["start"]["R"], "16 numbers")
     if len(session["start"]["R"]) != 16:
         yield Broken("start.R", f"has {len(session['start']['R']):,} numbers", "start.R is an array of 16 numbers")
-    for name in ("H", "PC", "flags", *timer):
+    for name in ("H", "PC", "flags", *devices):
         yield from _typed(f"start.{name}", session["start"][name], int, "a whole number from 0 to 2^64 - 1")
     yield from _typed("pages", session["pages"], list, "an array")
     for at, page in enumerate(session["pages"]):
@@ -157,16 +161,16 @@ def _shape(session: Any) -> Iterator[Broken]:
         yield from _typed(f"pages[{at}].hex", page["hex"], str, "a string")
     yield from _typed("inputs", session["inputs"], list, "an array")
     for at, event in enumerate(session["inputs"]):
-        yield from _event(f"inputs[{at}]", event)
+        yield from _event(f"inputs[{at}]", event, [*MOST] if "disk" in devices else [*MOST][:-1])
     yield from _numbers("checkpoints", session["checkpoints"], "numbers")
 
 
-def _event(member: str, event: Any) -> Iterator[Broken]:
+def _event(member: str, event: Any, kinds: Sequence[str]) -> Iterator[Broken]:
     if type(event) is not list or len(event) != 3:
         yield Broken(member, _shown(event), "an input is an array [count, kind, value]")
     yield from _typed(f"{member}[0]", event[0], int, "a count, a whole number")
-    if not isinstance(event[1], str) or event[1] not in MOST:
-        yield Broken(f"{member}[1]", _shown(event[1]), f"a kind is one of {', '.join(MOST)}")
+    if not isinstance(event[1], str) or event[1] not in kinds:
+        yield Broken(f"{member}[1]", _shown(event[1]), f"a kind is one of {', '.join(kinds)}")
     yield from _typed(f"{member}[2]", event[2], int, "a value, a whole number")
 
 
@@ -184,7 +188,7 @@ def _ranges(session: dict[str, Any]) -> Iterator[Broken]:
     start = session["start"]
     for name, value in zip(REGISTERS, start["R"]):
         yield from _up_to(f"start.R[{name[1:]}]", value, WORD)
-    for name, most in (("H", WORD), ("PC", (1 << 22) - 1), ("flags", 15), ("rate", WORD), ("phase", WORD)):
+    for name, most in (("H", WORD), ("PC", (1 << 22) - 1), ("flags", 15), ("rate", WORD), ("phase", WORD), ("disk", WORD)):
         yield from _up_to(f"start.{name}", start.get(name, 0), most)
     if start.get("phase", 0) >= max(start.get("rate", 0), 1):
         rule = f"phase is below the rate, {start['rate']}, or 0 if that is 0"
@@ -194,7 +198,7 @@ def _ranges(session: dict[str, Any]) -> Iterator[Broken]:
         yield from _up_to(f"pages[{at}].at", page["at"], PLACES - 1)
         if len(page["hex"].encode("utf-8", "replace")) > 2048:
             yield Broken(f"pages[{at}].hex", f"has {len(page['hex']):,} digits", "a hex has at most 2,048 digits")
-    yield from _at_most("inputs", session["inputs"], INPUTS)
+    yield from _at_most("inputs", session["inputs"], INPUTS_WITH_DISK if "disk" in start else INPUTS)
     for at, (count, kind, value) in enumerate(session["inputs"]):
         yield from _up_to(f"inputs[{at}][0]", count, COUNTS)
         yield from _up_to(f"inputs[{at}][2]", value, MOST[kind])

@@ -7,21 +7,22 @@ from dataclasses import dataclass, field
 from pathlib import Path
 from typing import Any
 
-from galluspa.formats.recording import FLAGS, KINDS, MEMORY_BYTES, MOUSE, PAGE_BYTES, PLACES, Event, Recording
+from galluspa.formats.recording import FLAGS, KINDS, MEMORY_BYTES, MOUSE, PAGE_BYTES, PLACES, UNANSWERED, Event, Recording
 from galluspa.formats.states import REGISTERS, values
 from galluspa.process.cli import Refused, number, read_file
 
-# The last count, and how many inputs and checkpoints a session or a recording has at most.
-COUNTS, INPUTS, CHECKPOINTS = 1 << 40, 1_000_000, 4096
+# The last count, and how many inputs, without a disk and with one, and checkpoints a session or a recording has at most.
+COUNTS, INPUTS, INPUTS_WITH_DISK, CHECKPOINTS = 1 << 40, 1_000_000, 4_000_000, 4096
 # Up to this count the end of a run is looked for, if no other one is given.
 LONGEST_RUN = 1 << 30
 KIND_NUMBERS = {name: kind for kind, name in KINDS.items()}
-MOST = {"timer": 0xFFFFFFFF, "switches": 0xFFF, "mouse": MOUSE, "key": 0xFF, "serial": 0xFF}
+MOST = {"timer": 0xFFFFFFFF, "switches": 0xFFF, "mouse": MOUSE, "key": 0xFF, "serial": 0xFF, "disk": 0xFFFFFFFF}
 
 
 @dataclass
 class Session:
-    """A session: initial state, inputs, and the counts of checkpoints. Rate and phase are said by version 2 alone."""
+    """A session: initial state, inputs, and the counts of checkpoints. Version 1 says no rate and phase, and only version 3 a
+    disk."""
 
     registers: list[int] = field(default_factory=lambda: [0] * 16)
     h: int = 0
@@ -29,20 +30,23 @@ class Session:
     flags: int = 0
     rate: int = 0
     phase: int = 0
+    disk: int = UNANSWERED
     memory: bytes = b""
     inputs: list[Event] = field(default_factory=list)
     checkpoints: list[int] = field(default_factory=list)
 
     def text(self) -> str:
         """Returns the session as JSON, a page and a few inputs in each line."""
-        counting = {"rate": self.rate, "phase": self.phase} if self.rate else {}
-        start = {"R": self.registers, "H": self.h, "PC": self.pc, "flags": self.flags, **counting}
+        is_with_disk = self.disk != UNANSWERED or any(KINDS[it.kind] == "disk" for it in self.inputs)
+        counting = {"rate": self.rate, "phase": self.phase} if self.rate or is_with_disk else {}
+        disk = {"disk": self.disk} if is_with_disk else {}
+        start = {"R": self.registers, "H": self.h, "PC": self.pc, "flags": self.flags, **counting, **disk}
         inputs = [json.dumps([event.count, KINDS[event.kind], event.value]) for event in self.inputs]
         return "\n".join(
             [
                 "{",
                 '  "format": "oberon-session",',
-                f'  "version": {2 if counting else 1},',
+                f'  "version": {3 if disk else 2 if counting else 1},',
                 f'  "start": {json.dumps(start)},',
                 f'  "pages": {_rows(_pages(self.memory), 1)},',
                 f'  "inputs": {_rows(inputs, 8)},',
@@ -82,6 +86,7 @@ def of_recording(name: str, read: Recording) -> Session:
     return Session(
         registers=list(first.registers),
         **numbers_of(first),
+        disk=first.disk,
         memory=read.memory(first, 0, MEMORY_BYTES),
         inputs=read.events,
         checkpoints=[checkpoint.count for checkpoint in later],
@@ -131,8 +136,9 @@ def inputs_of(path: Path) -> list[Event]:
             inputs.append(_input(f"{path} line {rows.line_num}", cells, inputs[-1].count if inputs else 0))
     except (UnicodeDecodeError, csv.Error) as error:
         raise Refused(f"{path}: not a CSV file in UTF-8: {error}") from error
-    if len(inputs) > INPUTS:
-        raise Refused(f"{path}: {len(inputs):,} inputs; a session has at most {INPUTS:,}")
+    most = INPUTS_WITH_DISK if any(KINDS[it.kind] == "disk" for it in inputs) else INPUTS
+    if len(inputs) > most:
+        raise Refused(f"{path}: {len(inputs):,} inputs; a session has at most {most:,}")
     return inputs
 
 

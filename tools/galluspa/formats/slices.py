@@ -5,7 +5,7 @@ from bisect import bisect_left
 from dataclasses import replace
 from operator import attrgetter
 
-from galluspa.formats.recording import Checkpoint, Event, Recording
+from galluspa.formats.recording import Checkpoint, Event, Recording, version_of
 
 
 def slice_of(read: Recording, first: int, last: int) -> Recording:
@@ -20,7 +20,7 @@ def slice_of(read: Recording, first: int, last: int) -> Recording:
     ]
     pool = b"".join(read.page(number) for number in numbers if number)
     inputs = [Event(event.count - begin, event.kind, event.value) for event in read.events[from_here:up_to]]
-    return Recording(2, pool, inputs, checkpoints)
+    return Recording(version_of(inputs, checkpoints), pool, inputs, checkpoints)
 
 
 def _renumbered(claim: Checkpoint, numbers: dict[int, int]) -> array:

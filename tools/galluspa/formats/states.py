@@ -1,33 +1,22 @@
 """Prints the parts of a claimed state, and what changed from one checkpoint to the next."""
 
 from collections.abc import Callable, Iterator, Mapping
-from dataclasses import dataclass
 from functools import lru_cache
 from operator import attrgetter
 from typing import Any
 
-from galluspa.formats.recording import FLAGS, KINDS, STOPS, Checkpoint, Event
+from galluspa.formats.recording import FLAGS, KINDS, STOPS, UNANSWERED, Checkpoint, Event
 
 REGISTERS = [f"R{at}" for at in range(16)]
 # The parts of a processor as numbers: R0 to R15, H, the program counter, the flags and the stop.
 Processor = tuple[int, ...]
 
 
-@dataclass(frozen=True)
-class Part:
-    """A part of a state but for its memory: its name in the lines of the program, what is claimed, and whether it
-    changed."""
-
-    name: str
-    text: str
-    is_changed: bool
-
-
 def values(checkpoint: Checkpoint) -> dict[str, int | list[int]]:
     """The parts of a state but for its memory, by their names, as numbers; the keys as a list of them."""
     return {
         **dict(zip(REGISTERS, checkpoint.registers, strict=True)),
-        **{name: getattr(checkpoint, attribute) for name, attribute in WORDS.items()},
+        **{name: getattr(checkpoint, attribute) for name, (attribute, _) in TEXTS.items()},
         "keys": list(checkpoint.keys),
     }
 
@@ -48,24 +37,12 @@ def value(name: str, number: int | list[int]) -> str:
     return STOPS[number] if name == "stop" and number < len(STOPS) else f"{number:08X}"
 
 
-def registers(checkpoint: Checkpoint, before: Checkpoint | None) -> list[Part]:
-    """R0 to R15."""
-    olds = before.registers if before else checkpoint.registers
-    pairs = enumerate(zip(checkpoint.registers, olds, strict=True))
-    return [Part(REGISTERS[at], f"{value:08X}", value != old) for at, (value, old) in pairs]
-
-
-def others(checkpoint: Checkpoint, before: Checkpoint | None, version: int) -> list[Part]:
-    """H, PC, the flags, the stop and the devices; rate and phase if the version has them."""
-    olds = dict(_others(before or checkpoint))
-    return [
-        Part(name, text, text != olds[name]) for name, text in _others(checkpoint) if version > 1 or name not in ("rate", "phase")
-    ]
-
-
-def _others(checkpoint: Checkpoint) -> Iterator[tuple[str, str]]:
-    for name, (attribute, text) in TEXTS.items():
-        yield name, text(getattr(checkpoint, attribute))
+def texts(checkpoint: Checkpoint) -> dict[str, str]:
+    """The parts of a state but for its memory, by their names, as text; the disk only if it has answered."""
+    shown = {name: text(getattr(checkpoint, attribute)) for name, (attribute, text) in TEXTS.items()}
+    if checkpoint.disk == UNANSWERED:
+        del shown["disk"]
+    return {**dict(zip(REGISTERS, map("{:08X}".format, checkpoint.registers), strict=True)), **shown}
 
 
 def changes(before: Checkpoint, after: Checkpoint) -> Iterator[tuple[str, str, str]]:
@@ -117,6 +94,7 @@ TEXTS: dict[str, tuple[str, Callable[[Any], str]]] = {
     "mouse": ("mouse", mouse),
     "serial": ("serial", _serial),
     "keys": ("keys", _keys),
+    "disk": ("disk", "{:08X}".format),
 }
 _OTHERS = attrgetter(*(attribute for attribute, _ in TEXTS.values()))
 # The parts of a state that are one word, in the order of parts: how the program names them, and their attributes here.

@@ -8,7 +8,7 @@ from galluspa.formats.recording import KINDS, Event
 @dataclass(frozen=True)
 class Input:
     """An input of a recording: the count of the instruction before which the machine takes it, its kind (`timer`, `switches`,
-    `mouse`, `key` or `serial`), and its value."""
+    `mouse`, `key`, `serial` or `disk`), and its value."""
 
     count: int
     kind: str

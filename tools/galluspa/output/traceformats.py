@@ -13,7 +13,7 @@ from galluspa.formats.symbols import NONE, Symbols
 # The numbers of a processor by their names, how JSON begins each of them, and the parts of devices.
 _PROCESSOR = (*states.REGISTERS, "H", "PC", "flags", "stop")
 _BEGIN = [f'"{name}": [' for name in _PROCESSOR]
-_DEVICES = ("timer", "rate", "phase", "switches", "LEDs", "mouse", "serial", "keys")
+_DEVICES = ("timer", "rate", "phase", "switches", "LEDs", "mouse", "serial", "keys", "disk")
 # The number of words, or instructions, whose texts are kept.
 KEPT_WORDS = 1 << 16
 

@@ -22,7 +22,7 @@ from galluspa.process.timelimit import TimeIsUp
 
 SECONDS = 600
 # A byte more than the longest recording has, and so than any file that is of use.
-MOST = 118_310_057
+MOST = 166_326_445
 # A write fails with one of these if there is no room, or if the device fails, whatever name the file has.
 NO_ROOM = (errno.ENOSPC, errno.EDQUOT, errno.EFBIG, errno.EIO)
 SIGNALS = (signal.SIGINT, signal.SIGTERM)
@@ -81,9 +81,7 @@ class Parser(argparse.ArgumentParser):
     def add_program_option(self) -> None:
         """Adds the option that names the program to ask."""
         self.add_argument(
-            "--program",
-            metavar="PATH",
-            help="the program oberon_replay to call (default: that of this clone or this installation)",
+            "--program", metavar="PATH", help="the program oberon_replay to call (default: that of this clone or this installation)"
         )
 
     def add_library_option(self) -> None:

@@ -25,6 +25,7 @@ POLLED = {
     "mouse": (0xFFFFD8, 0xFFFFDC),
     "switches": (0xFFFFC4, 0xFFFFC8),
     "timer": (0xFFFFC0, 0xFFFFC4),
+    "disk": (0xFFFFD0, 0xFFFFD4),
 }
 TAKES_KEY, TAKES_BYTE = (0xFFFFDC, 0xFFFFE0), (0xFFFFC8, 0xFFFFCC)
 CHANGES_SCREEN = Condition("the screen changes", (Raw(CHANGE, DISPLAY_START, DISPLAY_END, WORD), Raw(SENDS)))

@@ -134,13 +134,7 @@ def junit(suite: str, outcomes: Sequence[Outcome]) -> bytes:
     seconds = f"{sum(it.seconds for it in outcomes):.3f}"
     errors = sum(it.is_error for it in outcomes)
     wrong = sum(not it.is_ok for it in outcomes) - errors
-    counted = {
-        "name": _in_xml(suite),
-        "tests": str(len(outcomes)),
-        "failures": str(wrong),
-        "errors": str(errors),
-        "time": seconds,
-    }
+    counted = {"name": _in_xml(suite), "tests": str(len(outcomes)), "failures": str(wrong), "errors": str(errors), "time": seconds}
     top = ElementTree.Element("testsuites")
     tests = ElementTree.SubElement(top, "testsuite", counted)
     for it in outcomes:

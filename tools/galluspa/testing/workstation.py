@@ -11,20 +11,7 @@ import pytest
 from galluspa.engine.machine import Inputs
 from galluspa.engine.tracing import RunFrom
 from galluspa.formats.recording import Event
-from galluspa.formats.scripts import (
-    AFTER,
-    CONDITION,
-    LARGEST,
-    PATIENCE,
-    POLLS,
-    SENDS,
-    STILL,
-    STILL_FOR,
-    Input,
-    Look,
-    Script,
-    When,
-)
+from galluspa.formats.scripts import AFTER, CONDITION, LARGEST, PATIENCE, POLLS, SENDS, STILL, STILL_FOR, Input, Look, Script, When
 from galluspa.formats.sessions import MOST, Session
 from galluspa.formats.symbolfiles import file_beside
 from galluspa.interface import Call, Machine, Symbols
