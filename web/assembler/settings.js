@@ -14,7 +14,7 @@ import { isMark } from "./tokens.js";
 const WORD = 0xffffffff, MOUSE = 0x073ff3ff;
 const FLAGS = "NZCV";
 /** The most that an input of each kind may be. */
-const MOST = new Map([["timer", WORD], ["switches", 0xfff], ["mouse", MOUSE], ["key", 0xff], ["serial", 0xff]]);
+const MOST = new Map([["timer", WORD], ["switches", 0xfff], ["mouse", MOUSE], ["key", 0xff], ["serial", 0xff], ["disk", WORD]]);
 
 /** What a source says of its session.
  * @typedef {{ registers: number[], h: number, pc: number, flags: number, rate: number, phase: number, inputs: [number, string, number][] }} Start */

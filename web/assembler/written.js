@@ -2,6 +2,7 @@
 /* Writes what comes of an assembled source: its session, and its symbol file (docs/formats.md, docs/symbols.md). They say what those of `galluspa assemble`
  * say. */
 import { INSTRUCTION } from "./statements.js";
+import { UNANSWERED } from "../formats/states.js";
 
 const PAGE_BYTES = 1024, WORDS = 2 ** 32, LONGEST_NAME = 200, LONGEST_FILE = 255;
 const NOT_SHOWN = /[\p{C}\p{Zl}\p{Zp}]|(?! )\p{Zs}/gu;
@@ -14,8 +15,16 @@ const NOT_SHOWN = /[\p{C}\p{Zl}\p{Zp}]|(?! )\p{Zs}/gu;
  * @param {import("./settings.js").Start} start
  * @param {Bytes} memory */
 export function writtenSession({ registers, h, pc, flags, rate, phase, inputs }, memory) {
-  const start = { R: registers, H: h, PC: pc, flags, rate, phase };
-  return JSON.stringify({ format: "oberon-session", version: 2, start, pages: pagesOf(memory), inputs, checkpoints: [] });
+  return sessionText({ R: registers, H: h, PC: pc, flags, rate, phase }, pagesOf(memory), inputs);
+}
+
+/** Returns a session as JSON, without checkpoints. It is of version 3 if a disk answers.
+ * @param {object} begun
+ * @param {object[]} pages
+ * @param {Input[]} inputs */
+export function sessionText(begun, pages, inputs) {
+  const [version, start] = inputs.some(([, kind]) => kind === "disk") ? [3, { ...begun, disk: UNANSWERED }] : [2, begun];
+  return JSON.stringify({ format: "oberon-session", version, start, pages, inputs, checkpoints: [] });
 }
 
 /** Returns the pages that have a byte other than 0, without the zeros at their ends.

@@ -12,7 +12,7 @@ const AT_ONCE = 8192, MOST_HEADS = 8, LONGEST_ROUND = 4096, READY_AT_ONCE = 256;
 // The most changes of the distance of the two runs that are returned.
 const MOST_SHIFTS = 1000;
 // Where the words of a record have what is compared, and what an instruction does.
-const RECORD = RECORD_BYTES / 4, R = 2, PC = 19, STOP = 21, LEDS = 26, SERIAL = 28, KEYS = 29, STATE = 34, INPUTS = 36, WORD = 38, ADDRESS = 39, OLD = 40, NEW = 41, SENT = 42, FLAGS = 43;
+const RECORD = RECORD_BYTES / 4, R = 2, PC = 19, STOP = 21, LEDS = 26, SERIAL = 28, KEYS = 29, STATE = 36, INPUTS = 38, WORD = 40, ADDRESS = 41, OLD = 42, NEW = 43, SENT = 44, FLAGS = 45;
 const TIMER_ADDRESS = 0xffffc0, SERIAL_ADDRESS = 0xffffc8, KEY_ADDRESS = 0xffffdc, LINK = 15;
 
 /** What an instruction of a matched line did: the register that it wrote, or the address that it stored to, or that it sent a byte or stopped the machine.

@@ -7,14 +7,14 @@ import { INPUT_BYTES } from "../formats/layout.js";
 import { Refused } from "../formats/refused.js";
 import { SearchPool } from "./searchpool.js";
 import { SearchTask } from "./searchtask.js";
-import { AT, field, firstDifference, KEY, MEMORY_BYTES, MOUSE, SERIAL, SWITCHES, WORDS } from "../formats/states.js";
+import { AT, DISK, field, firstDifference, KEY, MEMORY_BYTES, MOUSE, SERIAL, SWITCHES, WORDS } from "../formats/states.js";
 import { isWhole } from "./tasks.js";
 
 // What sets the parts of a state that are of devices: inputs of a kind, or accesses to a device word, by its address.
 /** @type {{ [name: string]: { input?: number, kind?: number, word?: number } }} */
 const DEVICE_PARTS = {
   switches: { input: SWITCHES }, mouse: { input: MOUSE }, LEDs: { kind: STORE, word: 0xffffc4 },
-  serial: { input: SERIAL, kind: LOAD, word: 0xffffc8 }, keys: { input: KEY, kind: LOAD, word: 0xffffdc },
+  serial: { input: SERIAL, kind: LOAD, word: 0xffffc8 }, keys: { input: KEY, kind: LOAD, word: 0xffffdc }, disk: { input: DISK },
 };
 const MOST_CONDITIONS = 64, H_NUMBER = 16, FLAGS_NUMBER = 17;
 // How long a piece is to take, how many steps the first one has, since a hit may be near, and how many a piece has at most: a worker is

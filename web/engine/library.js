@@ -19,8 +19,8 @@ const NOT_FOUND = 11, HIT_BYTES = 16;
 // A checkpoint as galluspa_claims writes it: its state, how many bytes were sent, and the page of each slot.
 export const CHECKPOINT_BYTES = STATE_BYTES + 8 + 4 * PAGES;
 // What galluspa_records writes for each count: a state, and then what the instruction does, from these offsets on.
-export const RECORD_BYTES = 176;
-export const DOES = { inputs: 136, word: 152, address: 156, old: 160, new: 164, sent: 168, flags: 172 };
+export const RECORD_BYTES = 184;
+export const DOES = { inputs: 144, word: 160, address: 164, old: 168, new: 172, sent: 176, flags: 180 };
 
 export class Library {
   /** @param {WebAssembly.Module} module */

@@ -8,7 +8,7 @@ import { Inputs, isInput } from "../formats/inputs.js";
 import { INPUT_BYTES } from "../formats/layout.js";
 import { Playback } from "./playback.js";
 import { Recorder } from "./recorder.js";
-import { CHECKPOINT_LIMIT, INPUT_LIMIT, MOST_COUNT, SERIAL_LIMIT } from "../formats/limits.js";
+import { CHECKPOINT_LIMIT, INPUT_LIMIT, INPUT_LIMIT_WITH_DISK, MOST_COUNT, SERIAL_LIMIT } from "../formats/limits.js";
 import { Refused } from "../formats/refused.js";
 import { countOf, equalWords, joined, KEY, last, MOUSE, PER_SECOND, SERIAL, wordsOf } from "../formats/states.js";
 import { firstTable, sliceOf } from "./slices.js";
@@ -127,7 +127,7 @@ export class Machine extends Playback {
     if (this.isReplay) return "REPLAY: the inputs are the file's until you continue from here";
     if (this.part("stop")) return "STOPPED: a stopped machine takes no inputs";
     if (this.isAtLastCount) return "LIMIT REACHED: no count comes after this one";
-    return this.inputs.length >= INPUT_LIMIT ? "LIMIT REACHED: the machine takes no more inputs" : null;
+    return this.inputs.length >= this.inputLimit ? "LIMIT REACHED: the machine takes no more inputs" : null;
   }
 
   /** Adds an input before an instruction that is not before the next one, nor before the last input.
@@ -160,7 +160,7 @@ export class Machine extends Playback {
   feed() {
     const { keys, serial, typed } = this.arrivals;
     if (!typed || this.inputRefusal) return false;
-    const free = Math.min(QUEUE - this.part("keys") - this.due(KEY), INPUT_LIMIT - this.inputs.length);
+    const free = Math.min(QUEUE - this.part("keys") - this.due(KEY), this.inputLimit - this.inputs.length);
     for (let key = 0; key < free && keys.length; key++) this.input(KEY, keys.take());
     if (this.serialWaits && !this.isReceiving) this.input(SERIAL, serial.take());
     return keys.length + this.serialWaits > 0;
@@ -241,15 +241,20 @@ export class Machine extends Playback {
     return this.full !== null;
   }
 
+  /** The most inputs of its recording: only one of a disk has more than others may have. */
+  get inputLimit() {
+    return this.inputs.length > INPUT_LIMIT ? INPUT_LIMIT_WITH_DISK : INPUT_LIMIT;
+  }
+
   /** Whether the machine has taken as many inputs as a recording has at most. */
   get hasAllInputs() {
-    return this.next === INPUT_LIMIT;
+    return this.next === this.inputLimit;
   }
 
   /** Why the recording is full, at which count, and whether it ends there, or null. */
   get full() {
     if (this.recorder.full) return this.recorder.full;
-    const isMarked = this.hasAllInputs && (this.marks.at(-1) ?? 0) > this.inputs.count(INPUT_LIMIT - 1);
+    const isMarked = this.hasAllInputs && (this.marks.at(-1) ?? 0) > this.inputs.count(this.inputLimit - 1);
     return isMarked ? { why: "the recording has reached its limit of inputs", isEnd: false, count: last(this.marks) } : null;
   }
 

@@ -18,7 +18,7 @@ const MOVE = 0, WITH_CARRY = [8, 9], ACCESS = 2, BRANCH = 3, STORE = 5;
 const SCREEN_COST = 3;
 /** What a load from a device word takes: a part of the state.
  * @type {{ [address: number]: string }} */
-const TAKEN_FROM = { 0xffffc0: "timer", 0xffffc4: "switches", 0xffffc8: "serial", 0xffffcc: "serial", 0xffffd8: "mouse", 0xffffdc: "keys" };
+const TAKEN_FROM = { 0xffffc0: "timer", 0xffffc4: "switches", 0xffffc8: "serial", 0xffffcc: "serial", 0xffffd0: "disk", 0xffffd8: "mouse", 0xffffdc: "keys" };
 
 /** An instruction that was done: its count, its place and its word, the states before and after it, and the inputs that came before it.
  * @typedef {{ count: number, pc: number, word: number, before: Bytes, after: Bytes, inputs: Input[] }} Step */

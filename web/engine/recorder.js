@@ -6,9 +6,9 @@ import { Inputs } from "../formats/inputs.js";
 import { readRecording } from "../formats/recordings.js";
 import { HEADER, INPUT_BYTES } from "../formats/layout.js";
 import { LIMIT_REFUSALS } from "./library.js";
-import { CHECKPOINT_LIMIT, INPUT_LIMIT, POOL_LIMIT, SENT_LIMIT } from "../formats/limits.js";
+import { CHECKPOINT_LIMIT, INPUT_LIMIT, INPUT_LIMIT_WITH_DISK, POOL_LIMIT, SENT_LIMIT } from "../formats/limits.js";
 import { Refused } from "../formats/refused.js";
-import { joined, last, MEMORY_BYTES, PAGES, STATE_BYTES } from "../formats/states.js";
+import { DISK, joined, last, MEMORY_BYTES, PAGES, STATE_BYTES } from "../formats/states.js";
 import { firstTable, sliceOf, tableAt } from "./slices.js";
 
 // The recording ends with a checkpoint before one of its limits is reached: while this many bytes can still be sent, and while the
@@ -233,7 +233,8 @@ export class Recorder {
   extendLast(address, count, inputs) {
     const { library, marks } = this;
     this.cutFile();
-    if (inputs.length > INPUT_BYTES * INPUT_LIMIT) throw new Refused(LIMIT_REFUSALS.inputs);
+    const most = inputs.length > INPUT_BYTES * INPUT_LIMIT && new Inputs(inputs).has(DISK) ? INPUT_LIMIT_WITH_DISK : INPUT_LIMIT;
+    if (inputs.length > INPUT_BYTES * most) throw new Refused(LIMIT_REFUSALS.inputs);
     if (marks.length >= CHECKPOINT_LIMIT) throw new Refused(LIMIT_REFUSALS.checkpoints);
     if (this.sentTotal > SENT_LIMIT) throw new Refused(LIMIT_REFUSALS.sent);
     if (checkpointsOf(last(this.parts)) > PART_CHECKPOINTS) this.beginPart();

@@ -3,10 +3,11 @@
  * long recording in this way, so that it can show its progress. tools/galluspa/formats/slices.py cuts the same bytes, and docs/suites.md says why the
  * joined line is that of the whole. */
 import { readRecording } from "../formats/recordings.js";
-import { CHANGE_BYTES, CLAIM, HEADER, HEADER_BYTES, INPUT_BYTES } from "../formats/layout.js";
+import { Inputs } from "../formats/inputs.js";
+import { CHANGE_BYTES, CLAIM, DISK_BYTES, HEADER, HEADER_BYTES, INPUT_BYTES } from "../formats/layout.js";
 import { acceptedLine, falseLine, readLine } from "../formats/lines.js";
 import { Refused } from "../formats/refused.js";
-import { equal, joined, PAGE_BYTES, PAGES, STATE_BYTES } from "../formats/states.js";
+import { DISK, equal, joined, PAGE_BYTES, PAGES, STATE_BYTES, UNANSWERED } from "../formats/states.js";
 
 const SLICE_STEPS = 10000000, FIRST_STEPS = 1000000;
 // A frame has more steps while a call takes less than half of FRAME_MS, as the machine waits, but at most LONGEST_FRAME, or LONGEST_WITH_INPUTS beyond an input.
@@ -27,7 +28,7 @@ const change = (slot, id) => [slot, id];
  * @param {Uint32Array} table
  * @returns {[number, number][]} */
 export function changesOf({ bytes, version }, { at }, table) {
-  const view = new DataView(bytes.buffer, bytes.byteOffset, bytes.length);
+  const view = viewOf(bytes);
   /** @param {number} from */
   const number = (from) => view.getUint32(from, true);
   if (version === 1) return Array.from(table, (_, slot) => change(slot, number(at + CLAIM.table + 4 * slot))).filter(([slot, id]) => id !== table[slot]);
@@ -53,7 +54,7 @@ export function tableAt(recording, number) {
   return table;
 }
 
-/** Returns the recording between two checkpoints, in version 2. Its initial state is what the first one claims, its counts and inputs begin at 0
+/** Returns the recording between two checkpoints, in version 3 if a disk answers, else in version 2. Its initial state is what the first one claims, its counts and inputs begin at 0
  * again, and its pool has the pages that it names, in the order in which it names them. `table` is the table of the first checkpoint, and becomes
  * that of the last.
  * @param {Recording} recording
@@ -80,7 +81,7 @@ export function pageOf({ bytes }, id) {
   return bytes.subarray(HEADER_BYTES + PAGE_BYTES * (id - 1)).subarray(0, PAGE_BYTES);
 }
 
-/** Returns a recording of these parts, in version 2.
+/** Returns a recording of these parts, whose checkpoints end with the disk's answer: in version 3 if a disk answers, else in version 2, without these.
  * @param {Bytes[]} pages
  * @param {Bytes} inputs
  * @param {Bytes[]} claims
@@ -89,23 +90,29 @@ export function recordingOf(pages, inputs, claims, sent) {
   const header = new Uint8Array(HEADER_BYTES), view = new DataView(header.buffer);
   header.set(new TextEncoder().encode("ORSR"));
   const { version, pages: pagesAt, inputs: inputsAt, checkpoints } = HEADER;
-  for (const [field, number] of [[version, 2], [pagesAt, pages.length], [inputsAt, inputs.length / INPUT_BYTES], [checkpoints, claims.length]])
+  const hasDisk = new Inputs(inputs).has(DISK) || claims.some((claim) => viewOf(claim).getUint32(claim.length - DISK_BYTES, true) !== UNANSWERED);
+  for (const [field, number] of [[version, hasDisk ? 3 : 2], [pagesAt, pages.length], [inputsAt, inputs.length / INPUT_BYTES], [checkpoints, claims.length]])
     view.setUint32(field, number, true);
-  return joined([header, ...pages, inputs, ...claims, ...sent]);
+  return joined([header, ...pages, inputs, ...(hasDisk ? claims : claims.map((claim) => claim.subarray(0, -DISK_BYTES))), ...sent]);
 }
 
-/** Returns the bytes of a checkpoint in a recording that begins at a count of its own, which may be below 0.
+/** @param {Bytes} bytes */
+const viewOf = ({ buffer, byteOffset, length }) => new DataView(buffer, byteOffset, length);
+
+/** Returns the bytes of a checkpoint, with the disk's answer, in a recording that begins at a count of its own, which may be below 0.
  * @param {Recording} recording
  * @param {Claim} claim
  * @param {number} begin
  * @param {[number, number][]} changes */
 export function claimBytes({ bytes, version }, { at, count }, begin, changes) {
-  const claim = new Uint8Array(CLAIM.list + CHANGE_BYTES * changes.length), view = new DataView(claim.buffer);
+  const claim = new Uint8Array(CLAIM.list + CHANGE_BYTES * changes.length + DISK_BYTES), view = viewOf(claim), from = viewOf(bytes);
   claim.set(bytes.subarray(at, at + (version === 1 ? CLAIM.table : CLAIM.changes)));
   view.setBigUint64(0, BigInt(count - begin), true);
   if (count === begin) view.setUint32(CLAIM.sent, 0, true);
   view.setUint32(CLAIM.changes, changes.length, true);
   changes.flat().forEach((number, k) => view.setUint32(CLAIM.list + 4 * k, number, true));
+  const disk = version === 3 ? from.getUint32(at + CLAIM.list + CHANGE_BYTES * from.getUint32(at + CLAIM.changes, true), true) : UNANSWERED;
+  view.setUint32(claim.length - DISK_BYTES, disk, true);
   return claim;
 }
 

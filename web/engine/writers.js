@@ -16,7 +16,7 @@ const MOST_KEYS = 16;
 const FLAGS_NUMBER = REGISTERS_ASKED.indexOf("flags");
 /** The kinds of inputs that set the devices from which one loads.
  * @type {{ [device: string]: string }} */
-const KINDS_OF = { switches: "switches", mouse: "mouse", serial: "serial", timer: "timer", keys: "key" };
+const KINDS_OF = { switches: "switches", mouse: "mouse", serial: "serial", timer: "timer", keys: "key", disk: "disk" };
 
 /** @typedef {import("./origins.js").Step} Step */
 /** @typedef {import("./searchtask.js").SearchTask} SearchTask */

@@ -1,10 +1,10 @@
 // @ts-check
 /* Inputs of a machine, encoded as the events of a recording (docs/formats.md). */
 import { INPUT, INPUT_BYTES } from "./layout.js";
-import { KINDS } from "./states.js";
+import { KINDS, wordsOf } from "./states.js";
 
 /** @type {{ [kind: string]: number }} */
-const MOST_VALUE = { timer: 0xffffffff, switches: 0xfff, mouse: 0x073ff3ff, key: 0xff, serial: 0xff };
+const MOST_VALUE = { timer: 0xffffffff, switches: 0xfff, mouse: 0x073ff3ff, key: 0xff, serial: 0xff, disk: 0xffffffff };
 
 /** Inputs in the order of their counts, 16 bytes each, encoded as the events of a recording. */
 export class Inputs {
@@ -61,6 +61,14 @@ export class Inputs {
   /** @param {number} at */
   kind(at) {
     return this.view.getUint32(INPUT_BYTES * at + INPUT.kind, true);
+  }
+
+  /** Whether one of them is of a kind.
+   * @param {number} kind */
+  has(kind) {
+    const words = wordsOf(this.bytes);
+    for (let at = INPUT.kind / 4; at < words.length; at += INPUT_BYTES / 4) if (words[at] === kind) return true;
+    return false;
   }
 
   /** Returns the input at a position, as a session writes it.

@@ -3,15 +3,15 @@
  * with those of the program. */
 import { Inputs, isInput } from "./inputs.js";
 import { JsonReader } from "./json.js";
-import { CHECKPOINT_LIMIT, INPUT_LIMIT, LONGEST_SESSION, MOST_COUNT } from "./limits.js";
+import { CHECKPOINT_LIMIT, INPUT_LIMIT, INPUT_LIMIT_WITH_DISK, LONGEST_SESSION, MOST_COUNT } from "./limits.js";
 import { Refused } from "./refused.js";
-import { AT, field, KINDS, MEMORY_BYTES, PAGE_BYTES, PAGES, REGISTERS, STATE_BYTES } from "./states.js";
+import { AT, DISK, field, KINDS, MEMORY_BYTES, PAGE_BYTES, PAGES, REGISTERS, STATE_BYTES, UNANSWERED } from "./states.js";
 
 const PAGE_LIMIT = 1024, PC_END = 1 << 22;
 
 /** @typedef {import("./json.js").Json} Json */
 /** A session of the right shape.
- * @typedef {{ registers: bigint[], start: bigint[], pages: [bigint, string][], inputs: [bigint, number, bigint][], checkpoints: bigint[] }} Draft */
+ * @typedef {{ registers: bigint[], hasDisk: boolean, start: bigint[], pages: [bigint, string][], inputs: [bigint, number, bigint][], checkpoints: bigint[] }} Draft */
 
 /**
  * @param {boolean} is
@@ -68,44 +68,47 @@ function shapedSession(value) {
   const members = shapeMembers(value, ["format", "version", "start", "pages", "inputs", "checkpoints"]);
   shape(shapeText(members[0]) === "oberon-session");
   const version = shapeNumber(members[1]);
-  shape(version === 1n || version === 2n);
-  const [r, ...start] = shapeMembers(members[2], ["R", "H", "PC", "flags", ...(version === 2n ? ["rate", "phase"] : [])]);
+  shape(version >= 1n && version <= 3n);
+  const devices = ["rate", "phase", "disk"].slice(0, [0, 2, 3][Number(version) - 1]), hasDisk = version === 3n;
+  const [r, ...start] = shapeMembers(members[2], ["R", "H", "PC", "flags", ...devices]);
   const registers = shapeItems(r).map(shapeNumber);
   shape(registers.length === 16);
   return {
     registers,
-    start: [...start.map(shapeNumber), 0n, 0n].slice(0, 5),
+    hasDisk,
+    start: [...start.map(shapeNumber), ...[0n, 0n, BigInt(UNANSWERED)].slice(devices.length)],
     pages: shapeItems(members[3]).map((page) => {
       const [at, digits] = shapeMembers(page, ["at", "hex"]);
       return [shapeNumber(at), shapeText(digits)];
     }),
-    inputs: shapeItems(members[4]).map(shapedInput),
+    inputs: shapeItems(members[4]).map((input) => shapedInput(input, hasDisk)),
     checkpoints: shapeItems(members[5]).map(shapeNumber),
   };
 }
 
 /**
  * @param {Json} value
+ * @param {boolean} hasDisk
  * @returns {[bigint, number, bigint]}
  */
-function shapedInput(value) {
+function shapedInput(value, hasDisk) {
   const items = shapeItems(value);
   shape(items.length === 3);
   const kind = KINDS.indexOf(shapeText(items[1]));
-  shape(kind > 0);
+  shape(kind > 0 && (hasDisk || kind !== DISK));
   return [shapeNumber(items[0]), kind, shapeNumber(items[2])];
 }
 
 /** @param {Draft} draft */
-function testRanges({ registers, start: [h, pc, flags, rate, phase], pages, inputs, checkpoints }) {
+function testRanges({ registers, hasDisk, start: [h, pc, flags, rate, phase, disk], pages, inputs, checkpoints }) {
   /** @param {bigint} number */
   const isWord = (number) => number < 1n << 32n, most = BigInt(MOST_COUNT);
   range(registers.every(isWord) && isWord(h) && pc < PC_END && flags < 16n);
-  range(isWord(rate) && isWord(phase) && (rate ? phase < rate : phase === 0n));
+  range(isWord(rate) && isWord(phase) && isWord(disk) && (rate ? phase < rate : phase === 0n));
   /** @param {string} digits */
   const length = (digits) => new TextEncoder().encode(digits).length;
   range(pages.length <= PAGE_LIMIT && pages.every(([at, digits]) => at < PAGE_LIMIT && length(digits) <= 2 * PAGE_BYTES));
-  range(inputs.length <= INPUT_LIMIT && inputs.every(([count, kind, value]) => count <= most && isInput(kind, value)));
+  range(inputs.length <= (hasDisk ? INPUT_LIMIT_WITH_DISK : INPUT_LIMIT) && inputs.every(([count, kind, value]) => count <= most && isInput(kind, value)));
   range(checkpoints.length <= CHECKPOINT_LIMIT && checkpoints.every((count) => count >= 1n && count <= most));
 }
 
@@ -129,13 +132,13 @@ function bytesOfHex(digits) {
   return Uint8Array.from({ length: digits.length / 2 }, (_, at) => parseInt(digits.substr(2 * at, 2), 16));
 }
 
-/** Returns a state at count 0 whose devices are all zeros.
+/** Returns a state at count 0 whose other devices are all zeros.
  * @param {number[]} registers
  * @param {number[]} rest */
-function stateOf(registers, [h, pc, flags, rate, phase]) {
+function stateOf(registers, [h, pc, flags, rate, phase, disk = UNANSWERED]) {
   const state = new Uint8Array(STATE_BYTES), view = new DataView(state.buffer);
   registers.forEach((value, at) => view.setUint32(AT.R + 4 * at, value, true));
-  for (const [at, value] of [[AT.H, h], [AT.PC, pc], [AT.flags, flags], [AT.rate, rate], [AT.phase, phase]]) view.setUint32(at, value, true);
+  for (const [at, value] of [[AT.H, h], [AT.PC, pc], [AT.flags, flags], [AT.rate, rate], [AT.phase, phase], [AT.disk, disk]]) view.setUint32(at, value, true);
   return state;
 }
 

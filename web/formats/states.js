@@ -2,17 +2,19 @@
 /* The names and the notation of the parts of a machine's state. The names are those of the program's lines, in the order in which a check
  * compares the parts; the notation is that of tools/galluspa/formats/states.py. The page and the worker both use this file. */
 
-export const STATE_BYTES = 136, WORDS = 262144, MEMORY_BYTES = 4 * WORDS;
+export const STATE_BYTES = 144, WORDS = 262144, MEMORY_BYTES = 4 * WORDS;
 // The clock of the workstation: 25 MHz, one instruction per cycle.
 export const PER_SECOND = 25000000;
 export const DISPLAY_AT = 4 * 237504, DISPLAY_BYTES = 98304;
-export const KINDS = ["", "timer", "switches", "mouse", "key", "serial"], SWITCHES = 2, MOUSE = 3, KEY = 4, SERIAL = 5;
+export const KINDS = ["", "timer", "switches", "mouse", "key", "serial", "disk"], SWITCHES = 2, MOUSE = 3, KEY = 4, SERIAL = 5, DISK = 6;
+/** What device word 4 reads before the disk's first answer. */
+export const UNANSWERED = 255;
 export const STOPS = ["running", "float", "divisor", "fetch", "address"];
 export const PAGES = 1024, PAGE_BYTES = 1024;
 
-// Offsets in the 136 bytes of a state.
+// Offsets in the 144 bytes of a state.
 export const AT = { R: 8, H: 72, PC: 76, flags: 80, stop: 84, timer: 88, rate: 92, phase: 96, switches: 100, LEDs: 104, mouse: 108,
-             serial: 112, keys: 116 };
+             serial: 112, keys: 116, disk: 136 };
 export const REGISTERS = Array.from({ length: 16 }, (_, at) => `R${at}`);
 /** The names of the registers, with H and the flags. */
 export const REGISTERS_ASKED = [...REGISTERS, "H", "flags"];
@@ -65,6 +67,15 @@ function serialText(value) {
  */
 const pair = (name, text) => [name, text];
 
+/** Returns a state; one that was kept when states ended with the keys becomes that of a machine whose disk has not answered.
+ * @param {Bytes} state */
+export function withDisk(state) {
+  if (state.length === STATE_BYTES) return state;
+  const whole = joined([state, new Uint8Array(STATE_BYTES - state.length)]);
+  whole[AT.disk] = UNANSWERED;
+  return whole;
+}
+
 /** Returns the parts of a state without its memory, as pairs of a name and a text.
  * @param {Bytes} state
  * @returns {[string, string][]} */
@@ -85,6 +96,7 @@ export function partsOf(state) {
     ["mouse", mouseText(of("mouse"))],
     ["serial", serialText(of("serial"))],
     ["keys", keysText(state)],
+    ["disk", hex(of("disk"), 8)],
   ];
 }
 
@@ -156,7 +168,7 @@ export function firstDifference(one, other) {
   /** @type {[string, number][]} */
   const starts = [...REGISTERS.map((name, at) => /** @type {[string, number]} */ ([name, AT.R + 4 * at])), ...Object.entries(AT).slice(1)];
   for (const [name, start] of starts) {
-    const end = name === "keys" ? STATE_BYTES : start + 4;
+    const end = name === "keys" ? AT.disk : start + 4;
     if (!equal(one.state.subarray(start, end), other.state.subarray(start, end))) return name;
   }
   if (!equal(one.sent, other.sent)) return "out";

@@ -10,7 +10,7 @@ import { INPUT_BYTES } from "../formats/layout.js";
 import { MOST_COUNT } from "../formats/limits.js";
 import { areNotes } from "../formats/pinned.js";
 import { isLesson } from "../formats/project.js";
-import { joined, MEMORY_BYTES, PAGE_BYTES, PAGES, STATE_BYTES, WORDS, wordsOf } from "../formats/states.js";
+import { AT, joined, MEMORY_BYTES, PAGE_BYTES, PAGES, STATE_BYTES, withDisk, WORDS, wordsOf } from "../formats/states.js";
 
 /** An item that is not there, or is of another shape. */
 export class Gone extends Refusal {
@@ -52,7 +52,7 @@ const isWaiting = has({ keys: areCodes, serial: areCodes, taken: maybe(has({ key
 /** @type {Test} */
 const isWatch = (value) => isCount(value?.first) && isCount(value.end) && value.first < value.end && value.end <= MEMORY_BYTES;
 /** @type {Test} */
-const isMachine = (value) => has({ state: bytes(STATE_BYTES), pages: list(below(PAGES), PAGES), words: bytes() })(value) && value.words.length === PAGE_BYTES * value.pages.length;
+const isMachine = (value) => has({ state: (state) => bytes(STATE_BYTES)(state) || bytes(AT.disk)(state), pages: list(below(PAGES), PAGES), words: bytes() })(value) && value.words.length === PAGE_BYTES * value.pages.length;
 /** @type {Test} */
 const isRan = (value) => has({ id: isText, file: isText, sources: list(tuple(isText, isText)) })(value) && value.sources.some((/** @type {[string, string]} */ [file]) => file === value.file);
 
@@ -90,7 +90,7 @@ export function packedMachine({ state, words }) {
 function unpackedMachine({ state, pages, words: some }) {
   const words = new Uint8Array(MEMORY_BYTES);
   pages.forEach((page, at) => words.set(some.subarray(at * PAGE_BYTES, (at + 1) * PAGE_BYTES), page * PAGE_BYTES));
-  return { state, words };
+  return { state: withDisk(state), words };
 }
 
 // Reading

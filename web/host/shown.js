@@ -3,7 +3,7 @@
  * tab that is in sight. This module owns it. Panels read it here, and import no other panel for it. Looking never changes the recording. */
 import { app } from "./app.js";
 import { el } from "./elements.js";
-import { AT, countOf, field, PER_SECOND, STATE_BYTES } from "../formats/states.js";
+import { AT, countOf, field, PER_SECOND, withDisk } from "../formats/states.js";
 import { grouped, many, timeText } from "../formats/texts.js";
 
 // The count and its moment
@@ -30,7 +30,7 @@ export const isAhead = () => cursor.at !== null && cursor.at > nowCount();
 export const nowCount = () => (app.latest ? countOf(app.latest.state) : 0);
 export const shownCount = () => cursor.at ?? nowCount();
 /** The state that is shown: that of the moment, or the machine's own. */
-export const shownState = () => cursor.moment?.state ?? app.latest?.state ?? new Uint8Array(STATE_BYTES);
+export const shownState = () => cursor.moment?.state ?? app.latest?.state ?? withDisk(new Uint8Array(AT.disk));
 
 /** Why keys, the mouse and the controls of devices have no effect while the past is looked at, or null. */
 export function inputRefusalInPast() {

@@ -54,6 +54,7 @@ function inputLanes(from, to, columns) {
     const end = inputs.from(from + (column + 1) * width, at);
     for (let number = 0; at + number < end && number < LOOKED_AT; number++) {
       const [count, kind, value] = inputs.item(at + number), lane = LANE_OF[inputs.kind(at + number) - 1];
+      if (!lane) continue;
       if (lane === "keys") keys.push([column, value]);
       else found[lane][column] = Math.max(found[lane][column], kind === "mouse" && value >> 24 ? 2 : 1);
       if (listed[lane].length < LISTED) listed[lane].push([count, kind, value]);

@@ -16,7 +16,7 @@ import { grouped } from "../../formats/texts.js";
 import { notePassed } from "../timeline/lanes.js";
 import { askLastWriter } from "./lastwriter.js";
 
-export const DEVICES_ASKED = ["stop", "switches", "LEDs", "mouse", "serial", "keys"];
+export const DEVICES_ASKED = ["stop", "switches", "LEDs", "mouse", "serial", "keys", "disk"];
 
 // The cells of the registers by their names, made once: a drag of the cursor changes texts, and makes nothing. The state that was shown
 // before, while the machine did not run, to mark what changed. While it runs, they are shown so often.

@@ -1,5 +1,6 @@
 // @ts-check
 /* Opens recordings, sessions, memory images and examples in place of what is open, whose recording is kept. */
+import { LONGEST_RECORDING } from "../../formats/limits.js";
 import { app, branches, nameFile, NO_BRANCHES, setBranches, setFile, setImage } from "../../host/app.js";
 import { beginShowing } from "./beginning.js";
 import { showBranches } from "../timeline/branches.js";
@@ -31,7 +32,7 @@ import { drawLanes } from "../timeline/drawing.js";
 import { verdicts } from "../screen/verdicts.js";
 import { isNoteUnsafe, openWork, Work } from "../../host/work.js";
 
-const LONGEST_READ = 118310057, LONGEST_FILE = 67108865;
+const LONGEST_READ = LONGEST_RECORDING + 1, LONGEST_FILE = 67108865;
 // What a text is called that may be a source.
 const IS_TEXT = /\.(?:asm|s|inc|mod|txt|c|h|oberon)$/i;
 // How often something was chosen to be opened.

@@ -12,6 +12,7 @@ import { forgetExplained } from "./explaining.js";
 import { listenToHelp, offerSoon } from "./helping.js";
 import { keepRunSoon } from "../../host/work.js";
 import { oneAtATime } from "../../host/locks.js";
+import { sessionText } from "../../assembler/written.js";
 import { lineOf, names, setNames, setSource } from "../../host/names.js";
 import { compareRuns, forgetOther } from "./runcomparison.js";
 import { setRun } from "../timeline/running.js";
@@ -271,7 +272,10 @@ async function runAgainNow() {
 /** Returns a session with other inputs.
  * @param {string} session
  * @param {Input[]} inputs */
-const sessionWith = (session, inputs) => JSON.stringify({ ...JSON.parse(session), inputs });
+function sessionWith(session, inputs) {
+  const { start: { disk, ...start }, pages } = JSON.parse(session);
+  return sessionText(start, pages, inputs);
+}
 
 /** Saves the source. */
 export async function saveSource() {
