@@ -1,6 +1,7 @@
 """What the library answers, against the program: checks, records, migrations, claims, and runs that are recorded."""
 
 import ctypes
+import json
 from concurrent.futures import ThreadPoolExecutor
 from pathlib import Path
 
@@ -16,7 +17,7 @@ def compare_checks(folder: Path, check: str, library: Library) -> None:
     for number, text in enumerate(mutants()):
         name = f"{folder}/{number}.orsr"
         Path(name).write_bytes(text)
-        line, status = run(PROGRAM, "check", given=text)
+        line, status = run(PROGRAM, "check", "--disk", given=text)
         names.append(name)
         lines.append(f"{name}: ".encode() + line)
         kinds[status] += 1
@@ -35,7 +36,7 @@ def compare_checks(folder: Path, check: str, library: Library) -> None:
 
 
 def compare_answers(library: Library) -> None:
-    """The library records and migrates as the program does."""
+    """The library records and migrates as the program does; what has version 3, as with --disk."""
     sessions = [path.read_bytes() for path in sorted(EXAMPLES.glob("*.json"))]
     hello = (EXAMPLES / "hello.json").read_bytes()
     sessions += [
@@ -55,13 +56,25 @@ def compare_answers(library: Library) -> None:
         changed(STORED, 4),
         changed(STORED, 40),
     ]
+    answered = json.loads(hello)
+    answered |= {"version": 3, "inputs": [[3, "disk", 0xFFFFFFFF]]}
+    answered["start"] |= {"rate": 0, "phase": 0, "disk": 0x12345678}
+    with_disk = json.dumps(answered).encode()
+    recorded = run(PROGRAM, "record", "--disk", given=with_disk)[0]
+    expect("the version of a recording with a disk", recorded[4:8], b"\3\0\0\0")
+    cases: list[tuple[str, bytes, list[str]]] = [
+        ("record", with_disk, ["--disk"]),
+        ("migrate", recorded, ["--disk"]),
+        ("migrate", recorded[:-1], ["--disk"]),
+    ]
     for name, given in (("record", sessions), ("migrate", texts)):
-        for it in given:
-            output, status = run(PROGRAM, name, given=it)
-            result, written, found = library.answer(name, it, 1 << 20)
-            expect(f"{name} of {it[:40]!r}", (written, found), (output, status))
-            expect(f"{name} of {it[:40]!r} without room", library.answer(name, it, 3)[::2], (len(output), 77))
-    print(f"record, migrate: {len(sessions)} sessions and {len(texts)} recordings as the program says")
+        cases += [(name, it, []) for it in given]
+    for name, it, flags in cases:
+        output, status = run(PROGRAM, name, *flags, given=it)
+        result, written, found = library.answer(name, it, 1 << 20)
+        expect(f"{name} of {it[:40]!r}", (written, found), (output, status))
+        expect(f"{name} of {it[:40]!r} without room", library.answer(name, it, 3)[::2], (len(output), 77))
+    print(f"record, migrate: {len(cases)} sessions and recordings as the program says")
 
 
 def inputs_and_last(text: bytes) -> tuple[list[Input], int]:
@@ -208,7 +221,7 @@ def read_longest(library: Library) -> None:
     """Of a file longer than any recording, one byte more than the longest decides."""
     longest = dict(constants())["GALLUSPA_LONGEST"]
     whole = STORED + bytes(longest + 1000 - len(STORED))
-    line, status = run(PROGRAM, "check", given=whole)
+    line, status = run(PROGRAM, "check", "--disk", given=whole)
     expect("the line of a file that is too long", line, b"refused 8 trailing at byte 9504\n")
     for length in (longest + 1, longest):
         expect(f"the check of {length} bytes", library.answer("check", whole[:length], 256), (len(line), line, status))

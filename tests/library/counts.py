@@ -68,7 +68,7 @@ IDLE: Sequence[tuple[str, int, Sequence[int], tuple[int, int]]] = (
 
 def machine(words: Mapping[int, int], **fields: int) -> tuple[State, Words]:
     """Returns a machine with these words in memory."""
-    state, memory = State(**fields), (ctypes.c_uint32 * WORDS)()
+    state, memory = State(disk=255, **fields), (ctypes.c_uint32 * WORDS)()
     for at, word in words.items():
         memory[at] = word
     return state, memory
@@ -202,7 +202,7 @@ def refuse_counts(library: Library) -> None:
     half: dict[str, Any] = dict(words=WORDS // 2)
     bad: list[dict[str, Any]] = [
         half, dict(words=0), dict(pc=1 << 22), dict(flags=16), dict(stop=5), dict(rate=7, phase=7), dict(phase=1), dict(switches=4096),
-        dict(leds=256), dict(mouse=1 << 10), dict(serial=512), dict(key_count=17), dict(inputs=[Input(3, 0, 0)]), dict(inputs=[Input(3, 6, 0)]),
+        dict(leds=256), dict(mouse=1 << 10), dict(serial=512), dict(key_count=17), dict(inputs=[Input(3, 0, 0)]), dict(inputs=[Input(3, 7, 0)]),
         dict(inputs=[Input(3, 4, 256)]), dict(inputs=[Input(3, 2, 4096)]), dict(inputs=[Input(5, 4, 1), Input(4, 4, 1)]),
         dict(inputs=[Input((1 << 40) + 1, 4, 1)]),
     ]  # fmt: skip

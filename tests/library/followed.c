@@ -96,7 +96,7 @@ static uint32_t word_at(uint32_t i, uint32_t length) {
 static void draw_program(galluspa_state *state, uint32_t *words, galluspa_input *inputs) {
     uint32_t length = 4 + draw(MOST_CODE - 4), count = 0;
     for (uint32_t i = 0; i < CODE; i++) words[i] = i < length ? word_at(i, length) : JUMP(B, i, 0);
-    *state = (galluspa_state){.rate = draw(4)};
+    *state = (galluspa_state){.rate = draw(4), .disk = 255};
     state->r[0] = 5, state->r[12] = state->r[14] = 0x400, state->r[5] = 0xffffffc0, state->r[6] = 0x800000;
     if (state->rate) state->phase = draw(state->rate);
     for (int i = 0; i < EVENTS; i++) {

@@ -27,7 +27,7 @@ SIZES = {"u8": 1, "u32": 4, "u64": 8}
 # The limits of the header that are constants of other crates: what they are called there, and where.
 LIMITS = {
     "WORDS": ("MEMORY_WORDS", "risc_pages/src/sizes.rt"),
-    "LONGEST": ("LONGEST_RECORDING", "oberon_format/src/layout.rt"),
+    "LONGEST": ("LONGEST_WITH_DISK", "oberon_format/src/layout.rt"),
     "LONGEST_SESSION": ("LONGEST_SESSION", "recording_limits/src/limits.rt"),
     "MAX_CONDITIONS": ("MAX_CONDITIONS", "risc_search/src/search.rt"),
 }
@@ -35,7 +35,7 @@ LIMITS = {
 # as they are even if crate and header change together.
 STATE_OFFSETS = {
     "count": 0, "r": 8, "h": 72, "pc": 76, "flags": 80, "stop": 84, "timer": 88, "rate": 92, "phase": 96, "switches": 100, "leds": 104,
-    "mouse": 108, "serial": 112, "key_count": 116, "keys": 120,
+    "mouse": 108, "serial": 112, "key_count": 116, "keys": 120, "disk": 136, "reserved": 140,
 }  # fmt: skip
 FIND_PARAMETERS = ["state", "words", "inputs", "to", "conditions", "wanted", "hit"]
 

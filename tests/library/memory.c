@@ -211,7 +211,7 @@ static int counted_in_range(const galluspa_input *none, const galluspa_input *fa
 /* A fault that can be known without memory is answered so, though no request is granted. */
 static int faults(size_t text_len, size_t own_len) {
     size_t count = 77;
-    galluspa_input fall[] = {{5, 4, 65}, {4, 4, 65}}, none[] = {{5, 6, 65}};
+    galluspa_input fall[] = {{5, 4, 65}, {4, 4, 65}}, none[] = {{5, 7, 65}};
     for (refused = 1; refused < 3; refused++) {
         calls = 0;
         if (galluspa_claim(text, text_len - 1, 0, &state, words, GALLUSPA_WORDS) != GALLUSPA_NO_RECORDING) return 1;

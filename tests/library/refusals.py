@@ -53,7 +53,7 @@ def refuse_making(library: Library) -> None:
         ("half the words", text, [], later, half), ("no recording", text[:-1], [], later, words),
         ("count 0", text, [], altered(first, count=0), words), ("a count above 2^40", text, [], altered(first, count=(1 << 40) + 1), words),
         ("an input at the new count", text, [key(100)], later, words), ("inputs that fall", text, [key(5), key(4)], later, words),
-        ("no kind", text, [key(5, 6)], later, words), ("no value of a kind", text, [key(5, 4, 256)], later, words),
+        ("no kind", text, [key(5, 7)], later, words), ("no value of a kind", text, [key(5, 4, 256)], later, words),
         ("an input before the last checkpoint", more, [key(99)], altered(first, count=101), words),
         ("the same count again", more, [], later, words), ("a stop of 5", text, [], altered(later, stop=5), words),
     ]  # fmt: skip
@@ -81,6 +81,9 @@ def refuse_too_much(library: Library, text: bytes, later: State, words: Words) -
         expect(
             f"{count:,} inputs, where there may be 1,000,000", library.extend(text, inputs, later, words, b"", 1 << 25)[0], wanted
         )
+    inputs = (Input * 1_000_001).from_buffer(many)
+    inputs[0].kind = 6
+    expect("as many with an answer of a disk", library.extend(text, inputs, later, words, b"", 1 << 25)[0], 0)
     # (recorded at once: each extension reads what the ones before wrote, so that 4,095 of them take most of a minute)
     session = json.loads((EXAMPLES / "hello.json").read_text())
     session["checkpoints"] = list(range(1, 4096))
@@ -158,7 +161,7 @@ def refuse_live(library: Library) -> None:
     bad: list[dict[str, Any]] = [
         dict(pc=4194304), dict(flags=16), dict(stop=5), dict(rate=7, phase=7), dict(phase=1), dict(switches=4096), dict(leds=256),
         dict(mouse=1 << 10), dict(serial=512), dict(key_count=17), dict(count=101), dict(length=WORDS - 1), dict(length=0),
-        dict(inputs=[Input(3, 0, 0)]), dict(inputs=[Input(3, 6, 0)]), dict(inputs=[Input(3, 257, 0)]), dict(inputs=[Input(3, 4, 256)]),
+        dict(inputs=[Input(3, 0, 0)]), dict(inputs=[Input(3, 7, 0)]), dict(inputs=[Input(3, 257, 0)]), dict(inputs=[Input(3, 4, 256)]),
         dict(inputs=[Input(3, 2, 4096)]), dict(inputs=[Input(5, 4, 1), Input(4, 4, 1)]), dict(inputs=[Input((1 << 40) + 1, 4, 1)]),
     ]  # fmt: skip
     for fields in bad:

@@ -94,7 +94,7 @@ def some_conditions(states: Sequence[State], memories: Sequence[Memory]) -> Iter
         {byte for it, memory in zip(states, memories) for access in [accessed(it, memory)] if access for byte in access[1]}
     )
     yield from ([(1, pc, pc + 1, 0)] for pc in (pcs[0], pcs[len(pcs) // 2], pcs[-1]))
-    yield from ([it] for it in ((1, pcs[-1] + 1, 1 << 22, 0), (6, 0, 0, 0), (9, 0, 0, 0), (8, 0, 0, 4), (8, 0, 0, 5)))
+    yield from ([it] for it in ((1, pcs[-1] + 1, 1 << 22, 0), (6, 0, 0, 0), (9, 0, 0, 0), (8, 0, 0, 4), (8, 0, 0, 5), (8, 0, 0, 6)))
     yield []
     for byte in touched[:: 1 + len(touched) // 5]:
         ram = [[(3, byte, byte + 1, mask)] for mask in (0xFFFFFFFF, 0x01010101, 0x80808080)] if byte < 1 << 20 else []
@@ -186,7 +186,7 @@ def random_runs(library: Library) -> Iterator[tuple[str, Run]]:
     """The runs of random programs."""
     for seed in RANDOM_SEEDS:
         made = randomly.case(seed)
-        text = run(PROGRAM, "record", given=made.session.text().encode())[0]
+        text = run(PROGRAM, "record", "--disk", given=made.session.text().encode())[0]
         yield made.name, Run.recorded(library, text, min(made.counts, RANDOM_STEPS))
 
 
@@ -251,7 +251,7 @@ def refuse_searches(library: Library) -> None:
     bad: list[tuple[list[Sought], int]] = [
         ([(0, 0, 1, 0)], 0), ([(13, 0, 1, 0)], 0), ([(1, 5, 5, 0)], 0), ([(1, 0, (1 << 22) + 1, 0)], 0), ([(2, 0, (1 << 24) + 1, 0)], 0),
         ([(3, 0, (1 << 20) + 1, 0)], 0), ([(5, 18, 0, 0)], 0), ([(5, 17, 0, 16)], 0), ([(7, 0, 0, 256)], 0), ([(8, 0, 0, 0)], 0),
-        ([(8, 0, 0, 6)], 0), ([sends, (0, 0, 0, 0)], 0), ([], 2), ([sends] * 65, 0), ([(9, 0, 0, 0)] * 65, 1),
+        ([(8, 0, 0, 7)], 0), ([sends, (0, 0, 0, 0)], 0), ([], 2), ([sends] * 65, 0), ([(9, 0, 0, 0)] * 65, 1),
         ([(3, 0, 4, 0)], 0), ([(10, 18, 0, 0)], 0), ([(11, 18, 0, 0)], 0), ([(11, 17, 0, 0, 16, 3)], 0), ([(11, 17, 0, 0, 3, 16)], 0),
         ([(12, 2, 0, 1)], 0), ([(12, 1 << 20, 0, 1)], 0), ([(12, 4, 0, 0)], 0), ([also], 0), ([sends, also], 1),
         ([also, also, also, also, sends], 0), ([sends, also, also, also, also, sends], 0), ([(AND, 0, 0, 0), sends], 0),

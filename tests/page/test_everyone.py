@@ -1,5 +1,6 @@
 """The page for everybody: what is seen first, all of it by the key Tab, contrast, fingers, a window at 200 %, and one source of colours and sizes."""
 
+from collections.abc import Iterator
 
 from tests.page.driver.desk import SHIFT, Desk, expect, fail
 from tests.page.driver.given import FACE
@@ -95,6 +96,14 @@ AXIS = """
 """
 
 
+def each_tab(desk: Desk) -> Iterator[str]:
+    """Opens each tab in turn."""
+    for name in TABS:
+        desk.page.answer(f"el('tab-{name}').click()")
+        desk.settle()
+        yield name
+
+
 def test_look_first(desk: Desk) -> None:
     """An empty page plays a recorded game behind its cards until a key is pressed, says in a sentence what it is, and shows neither registers nor words for nothing."""
     page = desk.page
@@ -151,9 +160,7 @@ def test_reserve_places(desk: Desk) -> None:
         page.prefer(scheme)
         for size in ((1366, 625), (400, 800)):
             page.resize(*size)
-            for name in TABS:
-                page.answer(f"el('tab-{name}').click()")
-                desk.settle()
+            for name in each_tab(desk):
                 expect(f"what cannot be used of {name} at {size}, {scheme}", page.answer(IDLE), [])
                 expect(f"faint texts of {name} at {size}, {scheme}", page.answer(FAINT), [])
                 said = page.answer("document.getElementById('galluspa').innerText")
@@ -218,9 +225,7 @@ def test_walk_stops(desk: Desk) -> None:
     numbers = [len(stops_of(desk, "the empty page"))]
     desk.run_to_end("face.orsr", FACE)
     desk.look_at(8000000)
-    for name in TABS:
-        page.answer(f"el('tab-{name}').click()")
-        desk.settle()
+    for name in each_tab(desk):
         stops = stops_of(desk, f"the tab {name}")
         expect(f"the stops among the tabs, with {name}", [it for it in stops if it.startswith("g-tab-")], [f"g-tab-{name}"])
         numbers.append(len(stops))
@@ -234,9 +239,7 @@ def test_walk_stops(desk: Desk) -> None:
         )
     for size in ((800, 600), (400, 800), (683, 384)):
         page.resize(*size)
-        for name in TABS:
-            page.answer(f"el('tab-{name}').click()")
-            desk.settle()
+        for name in each_tab(desk):
             for is_back in (False, True):
                 stops_of(desk, f"the tab {name} at {size}{' back' if is_back else ''}", is_back)
     page.resize(1400, 900)
@@ -246,8 +249,7 @@ def test_tell_parts(desk: Desk) -> None:
     """The page has one main part, a heading for each panel, and an editor that says how one leaves it."""
     page = desk.page
     expect("the main part", page.answer("document.querySelectorAll('main').length"), 1)
-    for name in TABS:
-        page.answer(f"el('tab-{name}').click()")
+    for name in each_tab(desk):
         found = page.answer(f"el('panel-{name}').querySelector('h2')?.textContent.trim()")
         expect(f"whether {name} has a heading", bool(found), True)
     desk.open_source("snake.asm", (EXAMPLES / "snake.asm").read_text())
@@ -283,9 +285,7 @@ def test_see_contrast(desk: Desk) -> None:
     desk.look_at(2000000)
     for scheme in SCHEMES:
         page.prefer(scheme)
-        for name in TABS:
-            page.answer(f"el('tab-{name}').click()")
-            desk.settle()
+        for name in each_tab(desk):
             expect(f"faint texts of {name}, {scheme}", page.answer(FAINT), [])
     page.prefer("light")
     desk.run_to_end("face.orsr", FACE)
@@ -306,9 +306,7 @@ def test_fit_fingers(desk: Desk) -> None:
         page.resize(width, height)
         desk.run_to_end("face.orsr", FACE)
         expect("whether the pointer is coarse", page.answer("matchMedia('(pointer: coarse)').matches"), True)
-        for name in TABS:
-            page.answer(f"el('tab-{name}').click()")
-            desk.settle()
+        for name in each_tab(desk):
             expect(f"small controls of {name} at {width} by {height}", page.answer(SMALL), [])
         expect(f"the width of the page at {width}", page.answer("document.documentElement.scrollWidth"), width)
     page.use_touch(False)
@@ -320,9 +318,7 @@ def test_fit_twice(desk: Desk) -> None:
     page = desk.page
     page.resize(683, 384)
     desk.run_to_end("face.orsr", FACE)
-    for name in TABS:
-        page.answer(f"el('tab-{name}').click()")
-        desk.settle()
+    for name in each_tab(desk):
         expect(f"what is cut of {name}", page.answer(CUT), [])
         expect(f"the width of the page with {name}", page.answer("document.documentElement.scrollWidth"), 683)
     page.resize(1400, 900)

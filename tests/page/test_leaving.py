@@ -11,18 +11,7 @@ from collections.abc import Mapping
 from pathlib import Path
 from tests.page.driver.desk import expect, fail
 from tests.page.driver.given import DRAWS
-from tests.page.driver.person import (
-    COUNT,
-    KEPT,
-    NUMBER,
-    TEXT,
-    Person,
-    begun,
-    continue_with,
-    open_kept,
-    write_first,
-    write_line,
-)
+from tests.page.driver.person import COUNT, KEPT, NUMBER, TEXT, Person, begun, continue_with, open_kept, write_first, write_line
 from tests.page.driver.records import ALL, HOLD_UP, PARTED, WITH_STORE
 from tests.page.driver.shows import NOTICE, SENT, WORD
 

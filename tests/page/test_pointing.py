@@ -22,8 +22,7 @@ def test_ask_why(desk: Desk) -> None:
     """A click on a dot has the links to the key that was typed, as a list and as arcs; a click on a link goes there, and so does one beside the middle of
     its mark, also in a narrower window."""
     page = desk.page
-    desk.open_source("draws.asm", DRAWS)
-    desk.run_source()
+    desk.run_text("draws.asm", DRAWS)
     page.wait("galluspa.frame().on && galluspa.count() > 100000")
     page.press("a")
     page.wait("galluspa.frame().inputs === 1 && galluspa.count() > 3000000 && darkDots() > 0")
@@ -65,9 +64,7 @@ def test_ask_why(desk: Desk) -> None:
 def test_ask_why_elsewhere(desk: Desk) -> None:
     """A register and a word of memory have their links, too; and what only an input set has none."""
     page = desk.page
-    desk.open_source("pointing.asm", LOOPS)
-    desk.run_source()
-    page.wait("galluspa.count() > 100000")
+    desk.run_text("pointing.asm", LOOPS, 100_000)
     desk.pause()
     page.wait("sourceField.rows.some((row) => row.dataset.did)")
     desk.press("tab-state")

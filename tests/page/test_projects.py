@@ -257,7 +257,7 @@ def test_refuse_hostile(desk: Desk) -> None:
     file = exported(desk, "echo")
     project = project_in(file)
     recording = recording_in("echo.html", file)
-    bomb = gzip.compress(bytes(120_000_000), 1)
+    bomb = gzip.compress(bytes(170_000_000), 1)
     cases: list[tuple[bytes, str]] = [
         (exported_with(file, b"{"), "the project in this file is not JSON"),
         (exported_with(file, b"\xff"), "the project in this file is not a text in UTF-8"),

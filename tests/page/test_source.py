@@ -116,9 +116,7 @@ def test_run_again(desk: Desk) -> None:
     """A program is changed and run with the keys of the run before, each at its count: the page names the first line that does something else, with both values,
     and x shows either run. A line that is put in moves nothing."""
     page = desk.page
-    desk.open_source("draws.asm", DRAWS)
-    desk.run_source()
-    page.wait("galluspa.count() > 1000000")
+    desk.run_text("draws.asm", DRAWS, 1_000_000)
     for key in "abc":
         page.press(key)
         page.wait(f"galluspa.frame().inputs === {'abc'.index(key) + 1}")
@@ -198,9 +196,7 @@ def expect_both(desk: Desk, at: int, own: int, other: int) -> None:
 def test_step(desk: Desk) -> None:
     """Steps by line go into, over and out of a procedure that calls itself, forward and back, in the past and at now."""
     page = desk.page
-    desk.open_source("sum.asm", RECURSIVE)
-    desk.run_source()
-    page.wait("galluspa.count() > 1000")
+    desk.run_text("sum.asm", RECURSIVE, 1_000)
     desk.pause()
     desk.look_at(2)
     page.wait(f"galluspa.moment()?.at === 2 && {SOURCE_LINE} === 3")
@@ -242,9 +238,7 @@ def test_step(desk: Desk) -> None:
     expect("whether the machine itself went on", page.answer("[galluspa.count(), galluspa.isPast()]"), [over, False])
     desk.click_on("el('source').querySelector('[data-line=\"2\"]')")
     # Without a stack R14 is any register: here it is lower after the call than before.
-    desk.open_source("scratch.asm", "again: BL one\n BL one\n B again\none: MOV R14, R15\n BL two\n B R14\ntwo: B R15\n")
-    desk.run_source()
-    page.wait("galluspa.count() > 1000")
+    desk.run_text("scratch.asm", "again: BL one\n BL one\n B again\none: MOV R14, R15\n BL two\n B R14\ntwo: B R15\n", 1_000)
     desk.pause()
     desk.look_at(11)
     page.wait(f"galluspa.moment()?.at === 11 && {SOURCE_LINE} === 1")
@@ -342,8 +336,7 @@ def test_explain_stop(desk: Desk) -> None:
         ("MOV R3, 0\nDIV R0, R0, R3", "divisor: R3 = 00000000 is below 1, line 2; R3 was set by line 1."),
         ("MOV R0, 1\nFAD R0, R0, R0", "float: there is no FAD in this machine, line 2; it came from line 1."),
     ):
-        desk.open_source("other.asm", source)
-        desk.run_source()
+        desk.run_text("other.asm", source)
         page.wait(f"{STOP}.endsWith('.')")
         expect(f"what is said of {source!r}", page.answer(STOP), said)
 

@@ -25,12 +25,14 @@ def test_open_recordings(desk: Desk) -> None:
     claims = galluspa.formats.recording.read(face).checkpoints
     for number, (now, before) in enumerate(zip(claims, [None, *claims])):
         desk.show_claim(number)
-        parts = [*states.registers(now, before), *states.others(now, before, 2)]
+        olds, parts = states.texts(before or now), {**states.texts(now), "disk": f"{now.disk:08X}"}
         found = desk.page.answer(
             "[...document.querySelectorAll('#g-claim dd')].map((it) => [it.previousSibling.textContent, it.textContent, "
             "it.classList.contains('changed')])"
         )
-        expect(f"the parts at checkpoint {number}", found, [[part.name, part.text, part.is_changed] for part in parts])
+        expect(
+            f"the parts at checkpoint {number}", found, [[name, text, text != olds.get(name, text)] for name, text in parts.items()]
+        )
     false = rejoining(9)
     desk.drop({"false.orsr": false})
     desk.expect_line("a false recording, dropped", false)

@@ -29,8 +29,7 @@ def test_show_links(desk: Desk) -> None:
     so, and has all of its text where the mouse rests."""
     page = desk.page
     desk.set_speed("clock")
-    desk.open_source("draws.asm", DRAWS)
-    desk.run_source()
+    desk.run_text("draws.asm", DRAWS)
     page.wait("galluspa.frame().on && galluspa.count() > 100000")
     page.press("a")
     page.wait("galluspa.frame().inputs === 1 && darkDots() > 0")

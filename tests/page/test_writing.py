@@ -213,9 +213,7 @@ def test_step_by_keys(desk: Desk) -> None:
     """One row of steps is beside the source and beside the code; the keys of a browser's debugger do the same from anywhere; a machine without a source has
     the same steps."""
     page = desk.page
-    desk.open_source("sum.asm", RECURSIVE)
-    desk.run_source()
-    page.wait("galluspa.count() > 1000")
+    desk.run_text("sum.asm", RECURSIVE, 1_000)
     page.press("F8")
     page.wait("!galluspa.frame().on")
     for tab in ("code", "source", "state"):
@@ -294,9 +292,7 @@ def test_escape_between(desk: Desk) -> None:
 def test_go_to_keys(desk: Desk) -> None:
     """Back and on by inputs lands at the instruction that takes the key, also of keys that waited; by comma and dot at the count at which it came."""
     page = desk.page
-    desk.open_source("draws.asm", DRAWS)
-    desk.run_source()
-    page.wait("galluspa.count() > 1000000")
+    desk.run_text("draws.asm", DRAWS, 1_000_000)
     for number, key in enumerate("abc", 1):
         page.press(key)
         page.wait(f"galluspa.frame().inputs === {number}")
@@ -323,9 +319,7 @@ def test_go_to_keys(desk: Desk) -> None:
         page.wait(f"galluspa.shownCount() === {count} && {EXACT}")
     # Two keys at one count: the second one waits.
     waiting = "\n".join(f"        {line}" for line in ('input 10, key, "xy"', "checkpoints 9000"))
-    desk.open_source("waits.asm", DRAWS + waiting)
-    desk.run_source()
-    page.wait("galluspa.count() > 100000")
+    desk.run_text("waits.asm", DRAWS + waiting, 100_000)
     desk.pause()
     last = desk.press_and_look("back-run")
     first = desk.press_and_look("back-run")
@@ -340,9 +334,7 @@ def test_go_to_keys(desk: Desk) -> None:
 def test_go_to_lines(desk: Desk) -> None:
     """The field *go to* takes a line of the source that is shown, one of a file, a name and what the page writes of a word."""
     page = desk.page
-    desk.open_source("draws.asm", DRAWS)
-    desk.run_source()
-    page.wait("galluspa.count() > 1000000")
+    desk.run_text("draws.asm", DRAWS, 1_000_000)
     page.press("a")
     page.wait("galluspa.frame().inputs === 1")
     page.wait("galluspa.count() > 2000000")

@@ -23,6 +23,9 @@ UNKNOWN = [
     "check --shard /2",
     "check --shard 1/2/2",
     "combine again",
+    "combine --disk",
+    "check --disk=true",
+    "check --disk --disk",
     "bogus",
     "help bogus",
     "check again",
@@ -31,6 +34,8 @@ UNKNOWN = [
     "record --at 0",
     "migrate again",
     "migrate --at 1",
+    "--disk",
+    "record --disk=1",
     "upgrade",
     # a byte that is not UTF-8
     "\udcff",
@@ -45,9 +50,9 @@ HELP: Sequence[tuple[str, str, str]] = [
         "combine",
         "for k in 1 2 3; do oberon_replay check --shard $k/3 <face.orsr; done | oberon_replay combine",
     ),
-    ("record -h", "record", "oberon_replay record <face.json >face.orsr"),
-    ("help screen", "screen --at <K>", "oberon_replay screen --at 1 <face.orsr >face.pbm"),
-    ("migrate --help", "migrate", "oberon_replay migrate <old.orsr >new.orsr"),
+    ("record -h", "record [OPTIONS]", "oberon_replay record <face.json >face.orsr"),
+    ("help screen", "screen [OPTIONS] --at <K>", "oberon_replay screen --at 1 <face.orsr >face.pbm"),
+    ("migrate --help", "migrate [OPTIONS]", "oberon_replay migrate <old.orsr >new.orsr"),
 ]
 COMMANDS = (b"check", b"combine", b"migrate", b"record", b"screen")
 
@@ -69,7 +74,7 @@ class HelpCall(Call):
 def calls() -> Iterator[Call]:
     """Yields calls with all kinds of arguments."""
     stored = first(STORED_RUN)
-    for arguments in ("", "check", "check --workers=+2", "check --workers 64 --cut 100"):
+    for arguments in ("", "check", "check --workers=+2", "check --workers 64 --cut 100", "check --disk"):
         yield prints(arguments, stored, "accepted 1 checkpoints 100 steps")
     yield from (prints(arguments, UNREAD, "words refused") for arguments in UNKNOWN)
     # none is dropped: one that the program does not know is refused wherever it is

@@ -3,10 +3,10 @@
 from collections.abc import Iterator, Mapping, Sequence
 from dataclasses import replace
 
-from galluspa.formats.recording import Recording
+from galluspa.formats.recording import WORD, Recording
 from tests.programs import named
 from tests.programs.answers import Call, prints, writes
-from tests.programs.named import claiming, first, jumps, second, with_register
+from tests.programs.named import claiming, first, jumps, second, third, with_register
 
 # Few workers and many, jobs of one segment and of more.
 CREWS = ["check", *(f"check --workers {workers} --cut {cut}" for workers in (1, 2, 64) for cut in (1, 3, 4, 100))]
@@ -57,6 +57,17 @@ TIMERS: Sequence[tuple[Recording, str]] = [
     (claiming(jumps(1, rate=10), 1, timer=1, phase=3), "false checkpoint 1 at 10 part phase"),
     (claiming(jumps(1, rate=10), 1, rate=11, phase=3), "false checkpoint 1 at 10 part timer"),
 ]
+# What the disk answered is of version 3 alone.
+DISKS: Sequence[tuple[Recording, str]] = [
+    (named.ANSWERED, "accepted 3 checkpoints 9 steps"),
+    (claiming(named.ANSWERED, 1, disk=named.ANSWER), "false checkpoint 1 at 1 part disk"),
+    (claiming(named.ANSWERED, 2, disk=0x78), "false checkpoint 2 at 2 part disk"),
+    (with_register(named.ANSWERED, 2, 0, 0x78), "false checkpoint 2 at 2 part R0"),
+    (claiming(named.ANSWERED, 3, disk=255, output=b"A"), "false checkpoint 3 at 9 part disk"),
+    (claiming(ONE, 1, disk=0), "false checkpoint 1 at 10 part disk"),
+    (claiming(ONE, 0, disk=0), "false checkpoint 1 at 10 part disk"),
+    (claiming(claiming(ONE, 0, disk=WORD), 1, disk=WORD), "accepted 1 checkpoints 10 steps"),
+]
 # A recording in which only this part is false.
 PARTS: Mapping[str, Recording] = {
     **{f"R{number}": with_register(ONE, 1, number, 1) for number in range(16)},
@@ -98,8 +109,15 @@ def calls() -> Iterator[Call]:
         yield from _checks(first(it), line, CREWS)
         yield from _checks(second(it), line, CREWS)
         yield from (writes("migrate", text, second(it)) for text in (first(it), second(it)))
+        yield from (writes("migrate --disk", text, third(it)) for text in (first(it), second(it), third(it)))
+        yield prints("migrate", third(it), "refused 3 version at byte 4")
     for it, line in TIMERS:
         yield from _checks(second(it), line, CREWS)
+    for it, line in (*OPERATIONS, *STOPS, *INPUTS_AND_OUTPUT, *WRITES, *JUMPS, *TIMERS, *DISKS):
+        yield from _checks(third(it), line, [f"{crew} --disk" for crew in CREWS])
+        yield prints("check", third(it), "refused 3 version at byte 4")
+    for it, line in (*OPERATIONS, *TIMERS):
+        yield from _checks(second(it), line, ["check --disk"])
     for part, it in PARTS.items():
         yield from (prints("check", text, f"false checkpoint 1 at 10 part {part}") for text in (first(it), second(it)))
     for text in (first(named.MOST_CHECKPOINTS), second(named.MOST_CHECKPOINTS)):

@@ -11,6 +11,7 @@ typedef struct {
     uint64_t count;
     uint32_t r[16], h, pc, flags, stop, timer, rate, phase, switches, leds, mouse, serial, waiting;
     uint8_t keys[KEYS];
+    uint32_t disk, reserved;
     uint64_t inputs_from, inputs_count;
     uint32_t word, address, old_value, new_value, sent;
     uint8_t has_word, access_bytes, stores, sends;
@@ -26,6 +27,7 @@ static uint32_t flags_of(const Machine *m) { return (uint32_t)(m->n << 3 | m->z 
 static Done done_before(const Machine *m, uint64_t count, size_t next) {
     Done d = {.count = count, .h = m->h, .pc = m->pc, .flags = flags_of(m), .stop = m->stop, .timer = m->timer, .rate = m->rate};
     d.phase = m->phase, d.switches = m->switches, d.leds = m->leds, d.mouse = m->mouse, d.serial = m->serial, d.waiting = m->waiting;
+    d.disk = m->disk;
     memcpy(d.r, m->r, sizeof d.r);
     memcpy(d.keys, m->keys, m->waiting);
     d.inputs_from = next;

@@ -10,7 +10,7 @@ JUMP = 0xE7FFFFFF
 FIRST_PAGE: Mapping[int, int] = {0: 1}
 NOTHING: Mapping[int, int] = {}
 N, Z, C, V = 8, 4, 2, 1
-TIMER, KEY = 1, 4
+TIMER, KEY, DISK = 1, 4, 6
 
 
 def claim(
@@ -44,6 +44,11 @@ def first(it: Recording) -> bytes:
 def second(it: Recording) -> bytes:
     """Returns the file of version 2."""
     return write(it)
+
+
+def third(it: Recording) -> bytes:
+    """Returns the file of version 3."""
+    return write(replace(it, version=3))
 
 
 def jumps(segments: int, **fields: Any) -> Recording:
@@ -116,6 +121,16 @@ READ_BEFORE_ITS_COUNT = recording(
     [[0x5C00FFC0, *[0] * 8, 0x81C00000]],
     claim(rate=10),
     claim(10, {12: 0xFFFFFFC0}, pc=10, flags=Z, timer=1, rate=10),
+)
+# Reads the disk's answer, which comes before the second instruction, and jumps to itself.
+ANSWER, DISK_AT = 0x12345678, {1: 0xFFFFFFD0}
+ANSWERED = recording(
+    [[0x5100FFD0, 0x80100000, JUMP]],
+    claim(),
+    claim(1, DISK_AT, pc=1, flags=N),
+    claim(2, {**DISK_AT, 0: ANSWER}, pc=2, disk=ANSWER),
+    claim(9, {**DISK_AT, 0: ANSWER}, pc=2, disk=ANSWER),
+    events=[Event(1, DISK, ANSWER)],
 )
 # Each segment is one step, which moves R0 to itself.
 MOST_CHECKPOINTS = recording([], claim(table=NOTHING), *(claim(at, table=NOTHING, pc=at, flags=Z) for at in range(1, 4097)))

@@ -25,7 +25,7 @@ from galluspa.assembler.encoding import (
     reg,
     store,
 )
-from galluspa.formats.recording import MOUSE, Event
+from galluspa.formats.recording import MOUSE, UNANSWERED, Event
 from galluspa.formats.sessions import KIND_NUMBERS, MOST, Session
 from tests.programs.trial import Case
 
@@ -68,6 +68,8 @@ class _Writer:
         self.start, self.island = self._places()
         self.risk = rng.choice((0, 0, 0, 0.002, 0.01, 0.05))
         self.is_paired_at_end = rng.random() < 0.7  # where the program crosses the end of a page
+        # The kinds of its inputs: programs of some lengths have a disk.
+        self.taken = [kind for kind in MOST if kind != "disk" or self.length in (24, 96)]
         self.words: list[int] = []
         self.kinds, self.weights = zip(
             (self._operation, 26),
@@ -106,6 +108,7 @@ class _Writer:
             flags=rng.randrange(16),
             rate=rate,
             phase=rng.randrange(rate) if rate else 0,
+            disk=_number(rng) if "disk" in self.taken else UNANSWERED,
             memory=bytes(memory),
             inputs=self._inputs(counts),
         )
@@ -135,7 +138,7 @@ class _Writer:
         return [self._input(count) for count in at]
 
     def _input(self, count: int) -> Event:
-        name = self.rng.choice(list(MOST))
+        name = self.rng.choice(self.taken)
         value = self.rng.randrange(MOST[name] + 1)
         return Event(count, KIND_NUMBERS[name], value & MOUSE if name == "mouse" else value)
 

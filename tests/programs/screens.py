@@ -4,7 +4,7 @@ from collections.abc import Iterator
 
 from tests.programs import named
 from tests.programs.answers import Call, prints, writes
-from tests.programs.named import STORED_RUN, claim, first, recording, second
+from tests.programs.named import STORED_RUN, claim, first, recording, second, third
 
 # The page slot and the word in it of one dot, and the byte of the picture that has it: at the bottom left, and at the top right.
 DOTS = ((927, 192, 1, 98_188, 0x80), (1023, 191, 0x80000000, 139, 0x01))
@@ -27,6 +27,8 @@ def calls() -> Iterator[Call]:
     for text in (first(STORED_RUN), second(STORED_RUN)):
         yield writes("screen --at=1", text, picture({}))
         yield prints("screen --at 2", text, "no checkpoint 2")
+    yield writes("screen --disk --at 1", third(STORED_RUN), picture({}))
+    yield prints("screen --at 1", third(STORED_RUN), "refused 3 version at byte 4")
     # a fault of the file is reported before a missing checkpoint
     yield prints("screen --at 2", b"", "refused 1 short at byte 0")
     yield writes("screen --at 4096", second(named.MOST_CHECKPOINTS), picture({}))

@@ -7,7 +7,7 @@ from galluspa.formats.recording import WORD, Event, Recording, page_of
 from galluspa.formats.sessions import Session
 from tests.programs import named
 from tests.programs.answers import Call, prints, writes
-from tests.programs.named import C, JUMP, N, Z, claim, first, recording, second
+from tests.programs.named import C, JUMP, N, Z, claim, first, recording, second, third
 
 LAST = 1 << 40
 REGISTERS = "[0,0,0,0,0,0,0,0,0,0,0,0,0,0,0,0]"
@@ -101,6 +101,20 @@ BEGUN_2: Sequence[tuple[str, str]] = [
     (',"rate":0,"phase":4294967296', "3 range"),
 ]
 
+BEGIN_3 = BEGIN_2.replace('"version":2', '"version":3') + ',"rate":0,"phase":0'
+ANSWERING = '"pages":[{"at":0,"hex":"d0ff005100001080ffffffe7"}],"inputs":[[1,"disk",305419896]],"checkpoints":[1,2,9]}'
+# What follows in version 3, and the first fault of a session with a disk.
+BEGUN_3: Sequence[tuple[str, str]] = [
+    (f"}},{END}", "2 shape"),
+    (f',"disk":"0"}},{END}', "2 shape"),
+    (f',"disk":-1}},{END}', "2 shape"),
+    (f',"disk":4294967296}},{END}', "3 range"),
+    (f',"disk":0,"disks":0}},{END}', "2 shape"),
+    (',"disk":0},"pages":[],"inputs":[[1,"disk",4294967296]],"checkpoints":[]}', "3 range"),
+    (',"disk":0},"pages":[],"inputs":[[1,"disc",0]],"checkpoints":[]}', "2 shape"),
+    (',"disk":0},"pages":[],"inputs":[[2,"disk",0],[1,"disk",0]],"checkpoints":[]}', "4 order"),
+]
+
 # Stores 5 into the first word of page slot 1, then 0, and then jumps to itself.
 STORES = [0x40000005, 0xA0100400, 0x40000000, 0xA0100400, JUMP]
 # The changed page is new in the pool at checkpoint 1. At checkpoint 2 it is all zeros again.
@@ -181,6 +195,8 @@ def _refused() -> Iterator[tuple[bytes, str]]:
     yield from ((f"{BEGIN}{rest}".encode(), fault) for rest, fault in AFTER_START)
     yield from (((BEGIN + END).replace(old, new, 1).encode(), fault) for old, new, fault in REPLACED)
     yield from ((f"{BEGIN_2}{rest}}},{END}".encode(), fault) for rest, fault in BEGUN_2)
+    yield f'{BEGIN_2},"rate":0,"phase":0}},{ANSWERING}'.encode(), "2 shape"
+    yield f'{BEGIN_2},"rate":0,"phase":0,"disk":255}},{END}'.encode(), "2 shape"
     yield from ((before + STORED.encode() + after, "1 json") for before, after in BESIDE)
     yield from OTHERS.items()
 
@@ -191,7 +207,17 @@ def calls() -> Iterator[Call]:
         yield writes("record", session, second(it))
         yield prints("check", second(it), f"accepted {len(it.checkpoints) - 1} checkpoints {it.checkpoints[-1].count} steps")
     yield writes("migrate", first(STORED_TWICE), second(STORED_TWICE))
-    yield from (prints("record", session, f"session refused {fault}") for session, fault in _refused())
+    for session, fault in _refused():
+        yield prints("record", session, f"session refused {fault}")
+        if b'"version":3' not in session:
+            yield prints("record --disk", session, f"session refused {fault}")
+    for disk, it in ((255, named.ANSWERED), (WORD, named.claiming(named.claiming(named.ANSWERED, 0, disk=WORD), 1, disk=WORD))):
+        session = f'{BEGIN_3},"disk":{disk}}},{ANSWERING}'.encode()
+        yield writes("record --disk", session, third(it))
+        yield prints("record", session, "session refused 2 shape")
+    yield writes("record --disk", STORED.encode(), third(named.STORED_RUN))
+    for rest, fault in BEGUN_3:
+        yield prints("record --disk", f"{BEGIN_3}{rest}".encode(), f"session refused {fault}")
     for counts in ([(1 << 21) + 2], [LAST], [1 << 21, (1 << 21) + 2]):
         yield prints("record", _session(SENDS, counts), "record refused 1 output")
     # A round more needs 65,537 pages; a program that then sends too much is refused for that.

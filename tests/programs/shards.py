@@ -4,12 +4,12 @@ order, with the line of `check`.
 What `combine` has to print of lines of which some are missing is worked out here anew, from docs/formats.md alone.
 """
 
-import subprocess
 from collections.abc import Iterator, Sequence
 from dataclasses import dataclass, replace
 from pathlib import Path
 from random import Random
 
+from galluspa.engine.program import Program
 from galluspa.formats.recording import Recording, read, write
 from galluspa.process.cli import Refused
 from tests.programs import randomly
@@ -99,8 +99,8 @@ class Line:
 
 def asked(program: Path, words: Sequence[str], content: bytes) -> Said:
     """Returns what the program prints of bytes."""
-    ran = subprocess.run([program, *words], input=content, stdout=subprocess.PIPE, check=False)
-    return Said(ran.stdout.decode("ascii", "replace"), ran.returncode)
+    answer = Program(program).answer(words, content)
+    return Said(answer.output.decode("ascii", "replace"), answer.status)
 
 
 def lines_of(program: Path, text: Text, of: int) -> list[str]:
@@ -231,15 +231,9 @@ def random_text(program: Path, seed: int) -> tuple[Text, Random]:
     rng = Random(seed)
     case: Case = randomly.case(seed)
     counts = sorted(rng.sample(range(1, case.counts + 1), rng.choice((1, 2, 3, 5, 8, 13, 30))))
-    said = subprocess.run(
-        [program, "record"],
-        input=replace(case.session, checkpoints=counts).text().encode(),
-        stdout=subprocess.PIPE,
-        check=True,
-    )
-    it = read(said.stdout)
-    # A timer that counts is of version 2 alone.
-    if not case.session.rate and rng.random() < 0.8:
+    it = read(Program(program).recorded(replace(case.session, checkpoints=counts).text().encode()))
+    # A timer that counts is of version 2, and a disk of version 3 alone.
+    if it.version == 2 and not case.session.rate and rng.random() < 0.8:
         it = replace(it, version=1)
     kind = ("true", "false", "changed")[seed % 3]
     if kind == "false":

@@ -14,11 +14,10 @@ from pathlib import Path
 from tempfile import TemporaryDirectory
 
 from galluspa.engine.library import Library
-from galluspa.engine.program import ACCEPTED
+from galluspa.engine.program import Program
 from galluspa.formats import states
 from galluspa.formats.recording import PAGE_BYTES, Checkpoint, Recording, read, write
 from galluspa.formats.sessions import Session
-from galluspa.process.cli import Refused
 from tests.programs.counting import differences
 
 DENSE, FEW, ONE = "many checkpoints", "a few checkpoints", "one checkpoint at the end"
@@ -73,10 +72,7 @@ class Witnesses:
     def record(self, case: Case, checkpoints: Sequence[int]) -> bytes:
         """Returns the recording of a program with checkpoints at these counts."""
         session = replace(case.session, checkpoints=list(checkpoints))
-        ran = subprocess.run([self.program, "record"], input=session.text().encode(), stdout=subprocess.PIPE, check=False)
-        if ran.returncode != ACCEPTED:
-            raise Refused(f"{case.name}: record ended with status {ran.returncode} and {ran.stdout[:100]!r}")
-        return ran.stdout
+        return Program(self.program).recorded(session.text().encode(), f"{case.name}: ")
 
     def recordings(self, case: Case) -> dict[str, bytes]:
         """Returns the three recordings of a program, by what checkpoints they have."""
@@ -103,10 +99,7 @@ def _checks(witnesses: Witnesses, case: Case, files: Mapping[str, Path]) -> Iter
     """Yields what the program's check finds, with one worker and with several."""
     for name, path in files.items():
         for workers in WORKERS:
-            with path.open("rb") as file:
-                words = [str(witnesses.program), "check", "--workers", str(workers)]
-                ran = subprocess.run(words, stdin=file, stdout=subprocess.PIPE, check=False)
-            line = ran.stdout.decode("ascii", "replace").rstrip("\n")
+            line = Program(witnesses.program).check_file(path, workers).line
             yield from _of_line(case, line, f"check --workers {workers} of the recording with {name}")
 
 

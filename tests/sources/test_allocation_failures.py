@@ -11,7 +11,7 @@ CLAIM, EXTEND, PROFILE = "galluspa/src/claim.rt", "galluspa/src/extend.rt", "gal
 ANSWER, RECORDS = "galluspa/src/answer.rt", "galluspa/src/records.rt"
 RECORDING, SINK, SERVICE = "oberon_answers/src/recording.rt", "risc_machine/src/sink.rt", "oberon_cli/src/service.rt"
 CLAIMED = "        Ok(()) => DONE,\n        Err(_) => OUT_OF_MEMORY,\n"
-CHECKED = "match check(alloc, recording) {\n        Ok(answer) => put(&answer, line, status),"
+CHECKED = "match check_in(alloc, Versions::WithDisk, recording) {\n        Ok(answer) => put(&answer, line, status),"
 BEGUN = "        Ok(bytes) => put(&bytes, out, out_count),\n        Err(RangeOrMemory::Range) => OUT_OF_RANGE,\n"
 READ = "        Ok(valid) => valid,\n"
 # Bodies that make it up, by what is wrong: the file, and what is replaced by what.
@@ -20,12 +20,12 @@ FOOLING = {
     "a guard that matches it": (CLAIM, READ, "        Ok(_) if matches!(at, OUT_OF_MEMORY) => return 3,\n" + READ),
     "a call that gets no number": (
         RECORDING,
-        "Ok(session) => record_of(alloc, &session)",
+        "Ok(session) => record_of(alloc, versions, &session)",
         'Ok(_) => refused_as(alloc, "session", None, "")',
     ),
     "a call that gets no number by a name": (
         RECORDING,
-        "Ok(session) => record_of(alloc, &session)",
+        "Ok(session) => record_of(alloc, versions, &session)",
         'Ok(_) => { let fault = None; refused_as(alloc, "session", fault, "") }',
     ),
     "an arm of a beginning": (EXTEND, BEGUN, BEGUN.replace("put(&bytes, out, out_count)", "OUT_OF_MEMORY")),
@@ -42,12 +42,12 @@ FOOLING = {
     "an else": (
         CLAIM,
         "    if at >= valid.count() {",
-        "    if let Err(Fault::Memory) = read(alloc, recording) {\n    } else {\n        return OUT_OF_MEMORY;\n    }\n"
+        "    if let Err(Fault::Memory) = read_with_disk(alloc, recording) {\n    } else {\n        return OUT_OF_MEMORY;\n    }\n"
         "    if at >= valid.count() {",
     ),
     "an else of one value": (EXTEND, "let Ok(inputs) = inputs_of", "let Ok(true) = inputs_of"),
-    "no answer": (ANSWER, CHECKED, "match check(alloc, recording) {\n        Ok(_) => NO_ANSWER,"),
-    "the number 0": (ANSWER, CHECKED, "match check(alloc, recording) {\n        Ok(_) => 0,"),
+    "no answer": (ANSWER, CHECKED, "match check_in(alloc, Versions::WithDisk, recording) {\n        Ok(_) => NO_ANSWER,"),
+    "the number 0": (ANSWER, CHECKED, "match check_in(alloc, Versions::WithDisk, recording) {\n        Ok(_) => 0,"),
     "the length of nothing": (ANSWER, CHECKED, CHECKED.replace("put(&answer, line, status)", "[].len()")),
     "an empty answer": (ANSWER, CHECKED, CHECKED.replace("&answer", "&Answer { bytes: Vec::new(alloc), status: 0 }")),
     "the number 3": (CLAIM, CLAIMED, CLAIMED.replace("DONE", "3")),

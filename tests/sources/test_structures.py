@@ -64,6 +64,7 @@ def test_limits_of_the_page_are_those_of_the_tools() -> None:
         "LONGEST_RECORDING": cli.MOST - 1,
         "LONGEST_SESSION": number("LONGEST_SESSION"),
         "INPUT_LIMIT": sessions.INPUTS,
+        "INPUT_LIMIT_WITH_DISK": sessions.INPUTS_WITH_DISK,
         "CHECKPOINT_LIMIT": sessions.CHECKPOINTS,
         "POOL_LIMIT": recording.MOST_PAGES,
         "SENT_LIMIT": recording.MOST_SENT,

@@ -12,10 +12,7 @@ EDGES = (0, 1, 2, 4, 8, 255, 0x7FFFFFFF, 0x80000000, WORD)
 LEVELS: tuple[dict[str, Callable[[int, int], int]], ...] = (
     {"|": lambda a, b: a | b},
     {"&": lambda a, b: a & b},
-    {
-        "<<": lambda a, b: a << b if b < 32 else 0,
-        ">>": lambda a, b: signed(a) >> (b if b < 32 else 31),
-    },
+    {"<<": lambda a, b: a << b if b < 32 else 0, ">>": lambda a, b: signed(a) >> (b if b < 32 else 31)},
     {"+": lambda a, b: a + b, "-": lambda a, b: a - b},
     {"*": lambda a, b: a * b},
 )

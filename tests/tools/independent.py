@@ -68,7 +68,7 @@ class Independent:
         self.pc, self.stop, self.leds = self.session.pc, 0, 0
         self.flags = {name: bool(self.session.flags >> 3 - at & 1) for at, name in enumerate("NZCV")}
         self.timer, self.phase = 0, self.session.phase
-        self.switches, self.mouse, self.serial, self.keys = 0, 0, 0, list[Event]()
+        self.switches, self.mouse, self.serial, self.disk, self.keys = 0, 0, 0, self.session.disk, list[Event]()
         # The last input of each kind.
         self.last: dict[int, Event] = {}
         self.writers: dict[object, list[int]] = defaultdict(list)
@@ -110,12 +110,8 @@ class Independent:
             it = self.inputs[self.due]
             self.due += 1
             self.last[it.kind] = it
-            if it.kind == 1:
-                self.timer = it.value
-            elif it.kind == 2:
-                self.switches = it.value
-            elif it.kind == 3:
-                self.mouse = it.value
+            if name := {1: "timer", 2: "switches", 3: "mouse", 6: "disk"}.get(it.kind):
+                setattr(self, name, it.value)
             elif it.kind == 4 and len(self.keys) < 16:
                 self.keys.append(it)
             elif it.kind == 5:
@@ -202,7 +198,7 @@ class Independent:
 
     def _load(self, place: int, shift: int, mask: int) -> tuple[int, list[Source]]:
         """Loads bits of a device word. Returns them, and who gives which of them."""
-        kinds = {0: 0 if self.session.rate else 1, 1: 2, 2: 5, 3: 5, 6: 3}
+        kinds = {0: 0 if self.session.rate else 1, 1: 2, 2: 5, 3: 5, 4: 6, 6: 3}
         key = self.keys[0] if self.keys else None
         event = key if place == 7 else self.last.get(kinds.get(place, 0))
         value = self._device(place) >> shift & mask
@@ -219,7 +215,7 @@ class Independent:
             return self.serial
         if place == 7:
             return self.keys.pop(0).value if self.keys else 0
-        fixed = {4: 255, 5: 1, 0: self.timer, 1: self.switches, 3: 2 | self.serial >> 8}
+        fixed = {4: self.disk, 5: 1, 0: self.timer, 1: self.switches, 3: 2 | self.serial >> 8}
         return self.mouse | bool(self.keys) << 28 if place == 6 else fixed.get(place, 0)
 
     def _operate(self, word: int, done: Done) -> None:

@@ -18,6 +18,7 @@ from pathlib import Path
 from typing import Any
 
 from galluspa.engine.library import Library
+from galluspa.engine.program import Program
 from galluspa.engine.tracing import Run
 from galluspa.formats.recording import Checkpoint, Event, Recording, page_of, read, table_of, write
 
@@ -79,9 +80,7 @@ def on_terminal(name: str, *words: object) -> bytes:
 def record(session: dict | bytes) -> bytes:
     """Returns the recording of a session."""
     text = session if isinstance(session, bytes) else json.dumps(session).encode()
-    ran = run([PROGRAM, "record"], text)
-    assert ran.status == 0, ran.output
-    return ran.output
+    return Program(PROGRAM).recorded(text)
 
 
 def session(words: Iterable[int], checkpoints: Iterable[int], inputs: Iterable[tuple] = ()) -> dict:
@@ -120,7 +119,7 @@ def run_of(text: bytes, true: range | None = None) -> Run:
 
 def status_of(text: bytes) -> int:
     """Returns the exit status of the program for a recording's text: 0, 1 or 2."""
-    return run([PROGRAM], text).status
+    return Program(PROGRAM).check(text).status
 
 
 def group(pattern: str, text: str) -> str:

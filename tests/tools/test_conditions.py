@@ -219,7 +219,7 @@ class ConditionsTest(ToolTest):
             for words in (["input", f"{name}=3"], [f"input {name} = 3"], ["input", f"{name}=0x3"]):
                 found = conditions_of(words)
                 self.assertEqual([it.text for it in found], ["input", words[-1].removeprefix("input ").replace(" ", "")], words)
-                self.assertEqual([len(it.raws) for it in conditions_of(words)], [5, 1 + len(rest)], words)
+                self.assertEqual([len(it.raws) for it in conditions_of(words)], [6, 1 + len(rest)], words)
             for words in (["input", name, f"{name}=3"], [f"input={name}", f"{name}=3"]):
                 self.assertEqual([it.raws for it in conditions_of(words)], [(taken,), WRITTEN[name]], words)
             self.assertEqual([it.raws[0].kind for it in conditions_of(["input", name, "3"])], [TAKES, COUNTER])
@@ -262,8 +262,8 @@ class ConditionsTest(ToolTest):
             conditions_of(["input and PC=1"] * 7)
 
         conditions_of(["sent"] * 64)
-        conditions_of(["input"] * 12)
-        for joined in (["sent"] * 65, ["input"] * 13):
+        conditions_of(["input"] * 10)
+        for joined in (["sent"] * 65, ["input"] * 11):
             with self.assertRaisesRegex(Refused, "more than 64 conditions"):
                 conditions_of(joined)
 

@@ -41,7 +41,7 @@ class RecordingOfTest(ToolTest):
         self.assert_refused(tool("recording-of", self.folder / "none"), "No such file")
         whole = gzip.compress(STORED)
         self.assert_refused(tool("recording-of", self.page(whole, whole)), "2 recordings in this page")
-        bomb = gzip.compress(bytes(120_000_000), 1)
+        bomb = gzip.compress(bytes(170_000_000), 1)
         for packed, told in ((b"ORSR", "is not compressed data"), (whole[:-20], "is cut off"), (bomb, "longer")):
             self.assert_refused(tool("recording-of", self.page(packed)), told)
         odd = self.file("page.html", b'<script type="text/plain" id="g-recording">\xff</script>')

@@ -104,7 +104,10 @@ class RefusalTest(RerunsTest):
             (script({"look": "it", "when": {}}), "when has none of them: expected one of count, after"),
             (script({"look": "it", "when": {"count": 1, "after": 2}}), "when has count and after: expected one of"),
             (script({"look": "it", "when": {"count": -1}}), "count of when is not a whole number from 0"),
-            (script({"look": "it", "when": {"polls": "keys"}}), "polls of when is none of timer, switches, mouse, key, serial"),
+            (
+                script({"look": "it", "when": {"polls": "keys"}}),
+                "polls of when is none of timer, switches, mouse, key, serial, disk",
+            ),
             (script({"look": "it", "what": 1}), "what is not a member of an event: expected one of timer"),
             (script({"lok": "it"}), "events[0] (line 1): lok is not a member of an event: did you mean look?"),
             (script({"look": "b", "when": {"stil": 1}}), "stil is not a member of when: did you mean still? expected one of"),

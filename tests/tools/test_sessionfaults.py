@@ -30,7 +30,7 @@ REFUSED = (
     (json.dumps(WHOLE)[:-1].encode() + b",}", 1, "is wrong"),
     (b'{"format": 1}', 2, "the session lacks version"),
     (changed("more\x1b[2J", to=1), 2, r'has "more\u001b[2J"'),
-    (changed("version", to=3), 2, "version is 3"),
+    (changed("version", to=4), 2, "version is 4"),
     (changed("format", to="x" * 500), 2, 'format is "xxxx'),
     (changed("start", to=[]), 2, "start is []"),
     (changed("start", "rate", to=0), 2, 'start has "rate"'),
@@ -72,8 +72,8 @@ class SessionTest(ToolTest):
             self.assertTrue(lines[3].startswith("rule   "), lines)
 
     def test_the_tool_ends_as_the_program_does(self) -> None:
-        ran = tool("explain", self.file("it.json", changed("version", to=3)))
-        told = ("session refused 2 shape\n\nversion is 3\nrule   version is 1 or 2\n", "", 2)
+        ran = tool("explain", self.file("it.json", changed("version", to=4)))
+        told = ("session refused 2 shape\n\nversion is 4\nrule   version is 1, 2 or 3\n", "", 2)
         self.assertEqual((ran.output.decode(), ran.errors, ran.status), told)
         ran = tool("explain", EXAMPLES / "keys.json")
         self.assertRegex(ran.output.decode(), r"^the session breaks no rule: its recording has [\d,]+ bytes\n$")

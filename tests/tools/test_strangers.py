@@ -22,10 +22,7 @@ class OutputTest(ToolTest):
         for option, output in (("-o", source), ("-o", link), ("--image", included), ("--symbols", self.folder / "." / "other.asm")):
             words = (option, output, *["--words"] * (option == "--symbols"))
             self.assert_refused(tool("assemble", source, *words), "the output would overwrite this input: name another file")
-        for twice in (
-            ["assemble", source, "-o", new, "--symbols", new],
-            ["suite", self.folder, "--junit", new, "--keep", new],
-        ):
+        for twice in (["assemble", source, "-o", new, "--symbols", new], ["suite", self.folder, "--junit", new, "--keep", new]):
             self.assert_refused(galluspa(*twice), "new: two outputs have this name: name two files")
         self.assertFalse(new.exists())
         self.assertEqual({path: path.read_bytes() for path in before}, before)

@@ -10,6 +10,7 @@ from functools import cache
 from pathlib import Path
 from typing import NoReturn
 
+from galluspa.engine.program import Program
 from tests.page.driver.shows import (
     ASSEMBLED,
     EXACT,
@@ -56,8 +57,8 @@ def expect(what: str, found: object, wanted: object) -> None:
 @cache
 def program(command: str, text: bytes) -> tuple[str, int]:
     """Returns the line that the program prints of a text, and the status."""
-    ran = run([PROGRAM, command], text)
-    return ran.output.decode().rstrip("\n"), ran.status
+    answer = Program(PROGRAM).answer([command], text)
+    return answer.line, answer.status
 
 
 def program_dots(recording: bytes, checkpoint: int) -> bytes:
@@ -359,6 +360,12 @@ class Desk:
         is_there = self.another_machine("0")
         self.press("source-run")
         self.page.wait(f"{is_there} && galluspa.source().isRunning")
+
+    def run_text(self, name: str, text: str, past: int = -1) -> None:
+        """Opens a source, runs it, and waits until its machine is past a count."""
+        self.open_source(name, text)
+        self.run_source()
+        self.page.wait(f"galluspa.count() > {past}")
 
     def type_line(self, text: str) -> None:
         """Types a line into the source, and Enter."""
