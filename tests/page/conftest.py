@@ -73,4 +73,4 @@ def desk(running: Running, request: pytest.FixtureRequest, tmp_path: Path) -> It
             found.expect_sound()
             return
         used.leave()
-        running.close()
+    running.close()

@@ -98,14 +98,14 @@ def test_keep_under_its_name(desk: Desk) -> None:
 
 
 def test_keep_seldom(desk: Desk) -> None:
-    """A machine that waits is kept less often by time, until something comes for it; and whenever it is paused."""
+    """A machine that waits is kept less often, checkpoints by time or not, until something comes for it; and whenever it is paused."""
     page = desk.page
     desk.draw()
     page.press("k")
     page.wait("galluspa.work().sent === 'k' && galluspa.frame().isQuiet && galluspa.work().kept.endsWith(' 1 0')")
     kept = page.answer("galluspa.work().kept")
-    page.wait(f"galluspa.count() > Number({kept!r}.split(' ')[0]) + 200000000 && galluspa.frame().isQuiet")
-    expect("what is kept of it eight seconds later, by time", page.answer("galluspa.work().kept"), kept)
+    page.wait(f"galluspa.count() > Number({kept!r}.split(' ')[0]) + 275000000 && galluspa.frame().isQuiet")
+    expect("what is kept of it eleven seconds later, after two checkpoints by time", page.answer("galluspa.work().kept"), kept)
     page.press("l")
     page.wait("galluspa.work().kept.endsWith(' 2 0')")
     desk.pause()

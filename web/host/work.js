@@ -199,13 +199,14 @@ export class Work extends Item {
     return this.head && this.family !== undefined ? { head: this.headWith({ desk: /** @type {RunHead} */ (this.head).desk }) } : null;
   }
 
-  /** Keeps what came: all of the machine by time, or if the user did something, or if that was not written lately. By time it is kept less often while it waits.
+  /** Keeps what came: all of the machine by time, or if the user did something, or if that was not written lately. While it waits, it is kept less often unless the
+   * user did something: a checkpoint by time is written beside what was kept.
    * @param {import("./keeping.js").How} how
    * @returns {Promise<unknown>} */
   async keep(how) {
     const { latest } = app, since = performance.now() - this.at, isDue = how.isByTime || how.isSaidAgain || (this.isNewer && (!this.isStored || since >= KEEP_MS));
     if (app.work !== this || how.isLeaving || !isDue || !latest?.hasOwn) return super.keep(how);
-    const inputs = `${latest.inputs} ${latest.typed}`, kept = `${countOf(latest.state)} ${inputs}`, isWaiting = how.isByTime && latest.isQuiet && this.inputs === inputs && since < WAITING_MS;
+    const inputs = `${latest.inputs} ${latest.typed}`, kept = `${countOf(latest.state)} ${inputs}`, isWaiting = !how.isSaidAgain && latest.isQuiet && this.inputs === inputs && since < WAITING_MS;
     if (this.kept === kept || isWaiting) return super.keep(how);
     return (await this.keepWhole(how)) && Object.assign(this, { kept, inputs, at: performance.now() });
   }
