@@ -304,6 +304,7 @@ interface Lanes {
   keys: [number, number][];
   mouse: Bytes;
   serial: Bytes;
+  disk: Bytes;
   listed: { [lane: string]: Input[] };
   marks: number[];
   planned: number[];

@@ -58,6 +58,22 @@ def test_drag(desk: Desk) -> None:
     expect("what the timeline says of its screen", page.answer("lane('screen').filter((it) => it.includes('changed'))"), [])
 
 
+def test_disk(desk: Desk) -> None:
+    """The answers of a disk have a lane of their own, and a list of what each was. A machine without a disk has no such lane."""
+    page = desk.page
+    text = (EXAMPLES / "suite/devices/disk-answers.orsr").read_bytes()
+    desk.run_to_end("disk-answers.orsr", text)
+    recording = galluspa.formats.recording
+    answers = [event for event in recording.read(text).events if recording.KINDS[event.kind] == "disk"]
+    wanted = [f"disk {answer.value:02X} at {answer.count:,}" for answer in answers]
+    page.wait(f"lane('disk').length === {len(wanted)}")
+    expect("the answers in the list", page.answer("lane('disk')"), wanted)
+    names = "[...el('names').children].map((it) => it.textContent)"
+    expect("whether there is a lane", "disk" in page.answer(names), True)
+    desk.start("keys.json", (EXAMPLES / "keys.json").read_bytes())
+    expect("whether there is one without a disk", "disk" in page.answer(names), False)
+
+
 def test_press_each(desk: Desk) -> None:
     """Each key of the region does what it is for."""
     page = desk.page

@@ -7,8 +7,8 @@ import { generation } from "./frames.js";
 
 // How many inputs of a column are examined, and how many of a lane are listed as text.
 const LOOKED_AT = 32, LISTED = 40;
-/** @type {("keys" | "mouse" | "serial")[]} */
-const LANE_OF = ["mouse", "mouse", "mouse", "keys", "serial"];
+/** @type {("keys" | "mouse" | "serial" | "disk")[]} */
+const LANE_OF = ["mouse", "mouse", "mouse", "keys", "serial", "disk"];
 
 export const QUERIES = {
   /** Returns the lanes of a span of counts, which is shown in a number of columns, of the machine of a number; or null if that is gone.
@@ -39,22 +39,21 @@ export const QUERIES = {
 };
 
 /** Returns the inputs of a span: the keys with their columns, how much the mouse moves in each column (2 with a key down), in which
- * columns serial bytes come, and the first of each lane as a list.
+ * columns serial bytes and answers of the disk come, and the first of each lane as a list.
  * @param {number} from
  * @param {number} to
  * @param {number} columns */
 function inputLanes(from, to, columns) {
-  const { inputs } = machine, found = { mouse: new Uint8Array(columns), serial: new Uint8Array(columns) };
+  const { inputs } = machine, found = { mouse: new Uint8Array(columns), serial: new Uint8Array(columns), disk: new Uint8Array(columns) };
   /** @type {[number, number][]} */
   const keys = [];
   /** @type {{ [lane: string]: Input[] }} */
-  const listed = { keys: [], mouse: [], serial: [] };
+  const listed = { keys: [], mouse: [], serial: [], disk: [] };
   const width = (to - from) / columns;
   for (let column = 0, at = inputs.from(from); column < columns; column++) {
     const end = inputs.from(from + (column + 1) * width, at);
     for (let number = 0; at + number < end && number < LOOKED_AT; number++) {
       const [count, kind, value] = inputs.item(at + number), lane = LANE_OF[inputs.kind(at + number) - 1];
-      if (!lane) continue;
       if (lane === "keys") keys.push([column, value]);
       else found[lane][column] = Math.max(found[lane][column], kind === "mouse" && value >> 24 ? 2 : 1);
       if (listed[lane].length < LISTED) listed[lane].push([count, kind, value]);

@@ -62,6 +62,7 @@ export function listLanes() {
     keys: inputs("keys"),
     mouse: inputs("mouse"),
     serial: [...inputs("serial"), ...ofCells("sent", (bytes) => `${many(bytes, "byte")} sent`), ...unknown],
+    disk: inputs("disk"),
     screen: [...ofCells("lines", (lines) => `${many(lines, "line")} changed`), ...unknown],
     calls: callsList(),
     notes: latest([...pins]).map(([count, text]) => `${text} at ${grouped(count)}`),
@@ -69,7 +70,7 @@ export function listLanes() {
     keyframes: [`kept up to ${grouped(nowCount())}`],
   };
   const why = answerTexts();
-  el("lists").replaceChildren(...LANES.filter((lane) => lane !== "notes" || pins.size).map((lane) => laneList(lane, lists[lane])), ...(why.length ? [laneList("why", why)] : []));
+  el("lists").replaceChildren(...LANES.filter((lane) => !["notes", "disk"].includes(lane) || lanes.rows.includes(lane)).map((lane) => laneList(lane, lists[lane])), ...(why.length ? [laneList("why", why)] : []));
 }
 
 /**

@@ -42,7 +42,7 @@ export function drawLanes() {
   const to = { pen, colour, width };
   drawAxis(to);
   /** @type {{ [lane: string]: (place: Place) => void }} */
-  const drawings = { checkpoints: drawClaims, keys: drawKeys, mouse: drawMouse, serial: drawSerial, screen: drawScreen, calls: (place) => drawCalls(place, laneRows("calls"), columnOf, drawHatch), notes: drawNotes, hits: drawMarks, keyframes: drawFilm };
+  const drawings = { checkpoints: drawClaims, keys: drawKeys, mouse: drawMouse, serial: drawSerial, disk: drawDisk, screen: drawScreen, calls: (place) => drawCalls(place, laneRows("calls"), columnOf, drawHatch), notes: drawNotes, hits: drawMarks, keyframes: drawFilm };
   for (const lane of lanes.rows) drawings[lane]({ ...to, ...lanePlace(lane) });
   drawAnswers({ ...to, y: 0, high: height }, columnOf);
   drawNow(to, height);
@@ -50,11 +50,11 @@ export function drawLanes() {
 
 /** Finds the lanes that have something. One that had something stays. */
 function findRows() {
-  const { found, cells, rows } = lanes, { keys, mouse, serial } = found;
+  const { found, cells, rows } = lanes, { keys, mouse, serial, disk } = found;
   /** @type {{ [lane: string]: boolean }} */
   const has = {
     checkpoints: (app.file?.claims.length ?? 0) > 1 || found.planned.length + found.marks.length > 0, keys: keys.length > 0, mouse: mouse.some(Boolean), serial: serial.some(Boolean) || cells.some(({ sent }) => sent),
-    notes: pins.size > 0, screen: cells.some(({ lines }) => lines), calls: hasCalls(), hits: hitMarks().length > 0,
+    disk: disk.some(Boolean), notes: pins.size > 0, screen: cells.some(({ lines }) => lines), calls: hasCalls(), hits: hitMarks().length > 0,
   };
   takeLanes({ rows: LANES.filter((lane) => has[lane] || rows.includes(lane)) });
   const wanted = lanes.rows.map((lane) => `${lane} ${laneRows(lane)}`).join();
@@ -138,6 +138,12 @@ function drawKeys({ pen, colour, y, high }) {
 function drawMouse({ pen, colour, y, high }) {
   pen.fillStyle = colour("link");
   lanes.found.mouse.forEach((level, column) => level && pen.fillRect(column, y + high - (level === 2 ? high - 4 : 5), 1, level === 2 ? high - 5 : 4));
+}
+
+/** @param {Place} place */
+function drawDisk({ pen, colour, y, high }) {
+  pen.fillStyle = colour("link");
+  lanes.found.disk.forEach((level, column) => level && pen.fillRect(column, y + 3, 1, high - 6));
 }
 
 /** @param {Place} place */

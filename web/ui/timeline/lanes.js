@@ -5,12 +5,12 @@ import { app } from "../../host/app.js";
 import { falseClaim, nowCount } from "../../host/shown.js";
 
 /** The lanes, from above. */
-export const LANES = ["checkpoints", "notes", "keys", "mouse", "serial", "screen", "calls", "hits", "keyframes"];
+export const LANES = ["checkpoints", "notes", "keys", "mouse", "serial", "disk", "screen", "calls", "hits", "keyframes"];
 // What the lanes show. `end` is the last count that is known of: that of now, or of the file.
 // `cells` are the parts of the span of which it is known what changed in them, `passed` are the claims that a replay has judged, and `film` the
 // counts of the keyframes. It is replaced whole when another machine is opened.
 /** @type {Lanes} */
-const NOTHING_FOUND = { keys: [], mouse: new Uint8Array(), serial: new Uint8Array(), listed: { keys: [], mouse: [], serial: [] }, marks: [], planned: [], end: 0 };
+const NOTHING_FOUND = { keys: [], mouse: new Uint8Array(), serial: new Uint8Array(), disk: new Uint8Array(), listed: { keys: [], mouse: [], serial: [], disk: [] }, marks: [], planned: [], end: 0 };
 // `rows` are the lanes that have something, or had.
 /** @returns {{ end: number, found: Lanes, cells: Cell[], passed: Map<number, string>, film: number[], rows: string[] }} */
 const newLanes = () => ({ end: 0, found: NOTHING_FOUND, cells: [], passed: new Map(), film: [], rows: [LANES[LANES.length - 1]] });
