@@ -1,6 +1,6 @@
 -- Inputs in order, index by index.
-use Rattle.std.proofs.Common.{◌≡◌, ℕ, zero, suc, ◌+◌, ◌-◌, ◌<◌, ◌≤◌, true, false, List, [], ◌∷◌, length, get_or, nat_lt, add-zero, arith}
-use Rattle.std.proofs.lemmas.List.{get_or-map}
+use Rattle.std.proofs.Common.{◌≡◌, ℕ, zero, suc, ◌+◌, ◌-◌, ◌<◌, ◌≤◌, true, false, ◌∙◌, List, [], ◌∷◌, ap, length, length-take, get_or, map, nat_lt, refl, subst, sym, take, add-zero, arith}
+use Rattle.std.proofs.lemmas.List.{get_or-map, get_or-take, take-map}
 use Rattle.std.proofs.lemmas.Bool.Decides.{nat_tests}
 use Rattle.std.specs.List.Sorted.{IsNonDecreasingBy, IsPartitionPoint}
 use borrow.Author.Tests.{ltb-true, ltb-false}
@@ -71,3 +71,24 @@ next-up_to es next at to past later least = record {
       let first = least (omega arith) in
       omega arith;
 }
+
+-- the counts in the first events of a list
+pub count_at-take : (es : List Event) (n k : ℕ) → k < n → count_at (take n es) k ≡ count_at es k
+count_at-take es n k low =
+    let counts : Event → ℕ = λ (e : Event). e.count in
+    ap (λ (ns : List ℕ). get_or ns k 0) (sym (take-map counts n es)) ∙ get_or-take n (map counts es) k 0 low
+
+count_before-take : (es : List Event) (n k : ℕ) → k < n → count_before (take n es) k ≡ count_before es k
+count_before-take es n zero low = refl
+count_before-take es n (suc k) low =
+    let next : k + 1 ≡ suc k = omega arith in
+    subst (λ (i : ℕ). count_before (take n es) i ≡ count_before es i) next
+    (count_before-next (take n es) k ∙ count_at-take es n k (omega arith) ∙ sym (count_before-next es k))
+
+-- the first of events in order are in order
+pub ordered-take : (es : List Event) (n : ℕ) → AreOrdered es → AreOrdered (take n es)
+ordered-take es n ordered index inside =
+    let long = length-take n es in
+    let right = ordered index (omega (arith, long, inside)) in
+    let low : index < n = omega (arith, long, inside) in
+    rw (count_at-take es n index low, count_before-take es n index low) right

@@ -1,8 +1,9 @@
 //! Ordered lists of inputs. One input with its count is in `event`; what an input does is in `risc_devices`.
-ghost use Rattle.std.specs.Prelude.{◌≡◌, ◌≤◌, ◌<◌, length, IfOk, IfErr, IfNone, IfSome};
+ghost use Rattle.std.specs.Prelude.{◌≡◌, ◌≤◌, ◌<◌, ◌++◌, length, take, IfOk, IfErr, IfNone, IfSome, OnErr, OnOk};
 ghost use Rattle.risc_model.specs.InputOrder.{AreOrdered, IsFirstWrong, IsNextAt, count_at};
 
 use crate::event::Event;
+use std::alloc::AllocError;
 use std::marker::Model;
 
 /// The greatest count that an input or a checkpoint may have: 2^40 (this project's own choice).
@@ -69,6 +70,22 @@ impl Inputs {
         ensures ordered { AreOrdered self.now }
     {
         self.list.as_slice()
+    }
+
+    /// Appends events that continue the order. If there is no memory for them, the inputs are unchanged.
+    pub fn append(&mut self, events: &[Event]) -> Result<(), AllocError>
+        requires { AreOrdered (self.old ++ events.now) }
+        ensures appended { OnOk result (self.new ≡ self.old ++ events.now) }
+        ensures unchanged { OnErr result (self.new ≡ self.old) }
+    {
+        self.list.extend_from_slice(events)
+    }
+
+    /// Drops the events from an index on.
+    pub fn truncate(&mut self, index: usize)
+        ensures { self.new ≡ take index self.old }
+    {
+        self.list.truncate(index);
     }
 }
 
