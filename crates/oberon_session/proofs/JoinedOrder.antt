@@ -24,7 +24,8 @@ module _ (xs ys : List Event) where
   abbrev count : Event → ℕ
   count e = e.count
 
-  left : (i : ℕ) → i < length xs → count_at (xs ++ ys) i ≡ count_at xs i
+  -- the counts of the first, and of the others after them
+  pub left : (i : ℕ) → i < length xs → count_at (xs ++ ys) i ≡ count_at xs i
   left i lt =
       ap (λ (ns : List ℕ). get_or ns i 0) (map-append count xs ys)
       ∙ get_or_append_left (map count xs) (map count ys) 0 i (omega (arith, lt, length-map xs count))
@@ -60,7 +61,7 @@ module _ (xs ys : List Event) where
             ])
       ]
 
-  behind : (i : ℕ) → i < length ys → count_at (xs ++ ys) (length xs + i) ≡ count_at ys i
+  pub behind : (i : ℕ) → i < length ys → count_at (xs ++ ys) (length xs + i) ≡ count_at ys i
   behind i lt =
       let same : length xs + i - length xs ≡ i = omega arith in
       right (length xs + i) (omega arith) ∙ ap (λ (k : ℕ). count_at ys k) same

@@ -1,6 +1,7 @@
 pub mod OrderLemmas
 pub mod StoredLemmas
 pub mod RunLemmas
+pub mod FrameLemmas
 pub mod CountLemmas
 pub mod LawLemmas
 pub mod IdleLoopLemmas
