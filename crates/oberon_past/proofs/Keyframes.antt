@@ -141,6 +141,9 @@ module _ (r : RecordingParts) (spacing end : ℕ) (is : IsKept r spacing end) wh
           (sym first-pushed) (truth-pushed j low);
     }
 
+pub longer-same : (p : PastParts) → IsLonger p p
+longer-same p = record { run = refl; end = refl; spacing = refl; keyframes = omega arith; pages = omega arith }
+
 -- a past that is longer than a longer one is longer
 pub longer-on : (a b c : PastParts) → IsLonger a b → IsLonger b c → IsLonger a c
 longer-on a b c first second = record {

@@ -2,3 +2,8 @@ mod Keyframes
 mod Extending
 mod Beginning
 mod Pages
+mod Inputs
+mod Cutting
+mod Following
+mod Staying
+mod Adding

@@ -1,4 +1,5 @@
--- The past of a run. Read it in this order: a run, a past, what it answers.
+-- The past of a run. Read it in this order: a run, a past, what it answers, how it changes.
 pub mod Run
 pub mod Past
+pub mod Live
 pub mod inner

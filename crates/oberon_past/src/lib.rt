@@ -5,14 +5,20 @@
 #![tactic(auto)]
 
 mod answer;
+mod copying;
 mod extent;
+mod fault;
+mod live;
 mod moment;
 mod past;
+mod progress;
 mod running;
 mod steps;
 
 pub use answer::Answer;
 pub use extent::Extent;
+pub use fault::PastFault;
 pub use moment::Moment;
 pub use past::Past;
+pub use progress::{Ending, Progress};
 pub use steps::Steps;

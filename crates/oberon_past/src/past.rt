@@ -36,11 +36,11 @@ const ROOM: u32 = (1 << 31) - 1_024;
 /// A call that fails for want of memory keeps the past: the run is the same, and so is all that a later call answers.
 #[derive(Drop)]
 pub struct Past {
-    stored: StoredPages,
-    inputs: Inputs,
-    keyframes: Vec<Checkpoint>,
-    spacing: Steps,
-    end: u64,
+    pub(crate) stored: StoredPages,
+    pub(crate) inputs: Inputs,
+    pub(crate) keyframes: Vec<Checkpoint>,
+    pub(crate) spacing: Steps,
+    pub(crate) end: u64,
 }
 
 impl Model for Past {
@@ -169,7 +169,12 @@ impl Past {
     }
 
     /// Adds keyframes until one is near a count, or the budget is spent. Returns whether one is near.
-    fn approach(&mut self, alloc: Global, count: u64, budget: Steps) -> Result<bool, AllocError>
+    pub(crate) fn approach(
+        &mut self,
+        alloc: Global,
+        count: u64,
+        budget: Steps,
+    ) -> Result<bool, AllocError>
         requires { count ≤ self.old.end }
         ensures longer { IsLonger self.old self.new }
         ensures near { IfOk result (λ near. near ≡ true → IsNear self.new count) }
@@ -234,7 +239,7 @@ impl Past {
     }
 
     /// Returns the index of the last keyframe at or before a count.
-    fn nearest(&self, count: u64) -> usize
+    pub(crate) fn nearest(&self, count: u64) -> usize
         requires { self.now.run.start ≤ count }
         ensures index { result ≡ nearest self.now count }
     {
@@ -256,7 +261,11 @@ impl Past {
     }
 
     /// Returns the machine at a count.
-    fn machine<'a>(&'a self, alloc: Global, count: u64) -> Result<Machine<'a>, AllocError>
+    pub(crate) fn machine<'a>(
+        &'a self,
+        alloc: Global,
+        count: u64,
+    ) -> Result<Machine<'a>, AllocError>
         requires { self.now.run.start ≤ count }
         ensures { IfOk result (λ machine. machine.state ≡ state_at self.now.run count) }
     {

@@ -1,14 +1,15 @@
-//! The run from a keyframe to a count. The bytes that the machine sends are dropped, and take no memory.
+//! The run from a keyframe to a count, in which the bytes that the machine sends are dropped and take no memory; and the run on from
+//! there, in which they are kept.
 ghost use Rattle.std.specs.Prelude.{◌≡◌, ◌-◌, ◌<◌, ◌≤◌, IfOk};
 ghost use Rattle.risc_core.specs.declared.branch.TheConstants.{COUNTER_END};
 ghost use Rattle.risc_pages.specs.Tables.{IsNamed, table_words};
 ghost use Rattle.risc_model.specs.Replay.{run_of};
 ghost use Rattle.oberon_format.specs.CheckpointParts.{checkpoint_parts};
-ghost use Rattle.oberon_past.specs.inner.Kept.{IsReached, state_of};
+ghost use Rattle.oberon_past.specs.inner.Kept.{IsReached, IsStretch, state_of};
 
 use oberon_format::Checkpoint;
 use risc_devices::Devices;
-use risc_machine::Machine;
+use risc_machine::{Machine, Output};
 use risc_model::{Cpu, Inputs};
 use risc_pages::{Page, Pool};
 use std::alloc::{AllocError, Global};
@@ -74,4 +75,50 @@ pub(crate) fn reach(
         devices,
         changed: delta.changed,
     })
+}
+
+/// A run on from a count: where it ended, and the bytes that the machine sent.
+#[derive(Drop)]
+pub(crate) struct Stretch {
+    pub(crate) end: u64,
+    pub(crate) sent: Vec<u8>,
+}
+
+/// Runs a machine on, as long as there is room for the bytes that it sends.
+///
+/// A run that ends early when all room is taken ends before an instruction that sends, or for which memory ran out. A step of that
+/// instruction tells the two apart.
+pub(crate) fn run_with_room(
+    alloc: Global,
+    machine: &mut Machine<'_>,
+    inputs: &Inputs,
+    from: u64,
+    to: u64,
+    room: usize,
+) -> Result<Stretch, AllocError>
+    requires { from ≤ to }
+    ensures { IfOk result (IsStretch inputs.now from to room machine.old.state) }
+{
+    let mut output = Output {
+        bytes: Vec::new(alloc),
+        room,
+    };
+    match machine.run_within(inputs, from, to, &mut output) {
+        Ok(()) => Ok(Stretch {
+            end: to,
+            sent: output.bytes,
+        }),
+        Err(fault) => {
+            if output.bytes.len() < room {
+                return Err(AllocError);
+            }
+            match machine.step() {
+                Ok(Some(_)) => Ok(Stretch {
+                    end: fault.at,
+                    sent: output.bytes,
+                }),
+                _ => Err(AllocError),
+            }
+        }
+    }
 }

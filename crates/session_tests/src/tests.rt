@@ -1,5 +1,6 @@
-//! Sessions that are made of their parts, and what their faults are called.
+//! Sessions that are made of their parts, what their faults are called, and the past of a machine that runs on.
 
 mod disk;
 mod faults;
 mod parts;
+mod past;

@@ -2,14 +2,16 @@
 use Rattle.std.specs.Prelude.{ℕ, ◌≡◌, ◌+◌, ◌-◌, ◌*◌, ◌<◌, ◌≤◌, List, length, map}
 use Rattle.risc_pages.specs.Pages.{ArePages}
 use Rattle.risc_pages.specs.declared.sizes.TheConstants.{MEMORY_WORDS}
+use Rattle.risc_model.specs.declared.event.Event.{Event}
 use Rattle.risc_model.specs.MachineState.{State, IsCpuState, cpu_state}
-use Rattle.risc_model.specs.Replay.{run_of}
+use Rattle.risc_model.specs.Replay.{run_of, sent_of}
 use Rattle.oberon_format.specs.CheckpointParts.{CheckpointParts}
 use Rattle.oberon_format.specs.Defined.{claim_of}
 use Rattle.oberon_format.specs.Recording.{RecordingParts, checkpoint_at, count_at}
 use Rattle.oberon_session.specs.Laws.{IsTableOf}
 use Rattle.oberon_session.specs.Stored.{changed_page_view, changed_pages}
 use Rattle.oberon_past.specs.declared.running.Reached.{Reached}
+use Rattle.oberon_past.specs.declared.running.Stretch.{Stretch}
 
 -- the state of a keyframe over a pool
 abbrev pub state_of : List (List ℕ) → CheckpointParts → State
@@ -38,3 +40,10 @@ pub record IsReached (begun : List ℕ) (state : State) (reached : Reached) : Ty
   pub changed : map changed_page_view reached.changed.items ≡ changed_pages begun state.words
   pub range : IsCpuState state.cpu
   pub whole : length state.words ≡ MEMORY_WORDS
+
+-- a run from a state at a count ended at the count `to`, or before an instruction that sends a byte for which there is no room
+pub record IsStretch (inputs : List Event) (from to room : ℕ) (state : State) (stretch : Stretch) : Type 0 where
+  pub further : (from ≤ stretch.end) × (stretch.end ≤ to)
+  pub sent : stretch.sent.items ≡ sent_of inputs from (stretch.end - from) state
+  pub fits : length stretch.sent.items ≤ room
+  pub full : stretch.end < to → room < length (sent_of inputs from (stretch.end + 1 - from) state)

@@ -1,0 +1,183 @@
+//! A past that changes: a branch of it, more inputs, a run that goes on, and a cut. So it is the past of a live machine.
+ghost use Rattle.std.specs.Prelude.{◌≡◌, ◌≢◌, ◌≤◌, ◌↔◌, IfErr, IfNone, IfOk, IfSome, IsTrue, OnErr, OnOk, length};
+ghost use Rattle.risc_model.specs.InputOrder.{count_before};
+ghost use Rattle.oberon_past.specs.declared.progress.Ending.{Ending};
+ghost use Rattle.oberon_past.specs.Live.{AreNext, HasInputs, HasRun, IsBranchFault, IsInputFault, IsOutside, IsRunFault, IsUpTo};
+ghost use Rattle.oberon_past.specs.Past.{IsLonger};
+ghost use Rattle.oberon_past.specs.Run.{state_at};
+ghost use Rattle.oberon_past.specs.inner.Kept.{IsStretch};
+
+use crate::copying::{inputs_copy, keyframes_copy, pool_copy};
+use crate::fault::PastFault;
+use crate::past::Past;
+use crate::progress::{Ending, Progress};
+use crate::running::{Stretch, run_with_room};
+use crate::steps::Steps;
+use oberon_session::StoredPages;
+use risc_model::{Event, MAX_COUNT, first_from};
+use std::alloc::{AllocError, Global};
+
+impl Past {
+    /// Makes a second past of the same run up to a count, with the inputs before it. It shares nothing with the first one.
+    ///
+    /// It copies the keyframes up to the count, all pages, and the inputs. It runs nothing.
+    pub fn branch(&self, alloc: Global, at: u64) -> Result<Past, PastFault>
+        ensures branch { IfOk result (IsUpTo at self.now) }
+        ensures refused { IfErr result (IsBranchFault self.now at) }
+    {
+        if let Some(outside) = self.outside(at) {
+            return Err(outside);
+        }
+        let events = self.inputs.events();
+        let next = first_from(events, at);
+        let kept = self.nearest(at) + 1;
+        Ok(Past {
+            stored: StoredPages {
+                pool: pool_copy(alloc, &self.stored.pool)?,
+                table: self.stored.table.copy(),
+            },
+            inputs: inputs_copy(alloc, &events[..next])?,
+            keyframes: keyframes_copy(alloc, &self.keyframes[..kept])?,
+            spacing: self.spacing,
+            end: at,
+        })
+    }
+
+    /// Drops what comes after a count: the inputs from the count on, and the keyframes after it. The count is the end of the past then.
+    ///
+    /// It allocates nothing. Pages that no keyframe names any more stay.
+    pub fn cut(&mut self, at: u64) -> Result<(), PastFault>
+        ensures cut { OnOk result (IsUpTo at self.old self.new) }
+        ensures refused { IfErr result (IsOutside self.old at) }
+        ensures unchanged { OnErr result (self.new ≡ self.old) }
+    {
+        if let Some(outside) = self.outside(at) {
+            return Err(outside);
+        }
+        let kept = self.nearest(at) + 1;
+        self.keyframes.truncate(kept);
+        let next = first_from(self.inputs.events(), at);
+        self.inputs.truncate(next);
+        self.end = at;
+        Ok(())
+    }
+
+    /// Adds inputs after those that there are. None of them is before the end of the past, their counts do not fall, and are at most
+    /// `MAX_COUNT`.
+    ///
+    /// On an error none is added.
+    pub fn input(&mut self, inputs: &[Event]) -> Result<(), PastFault>
+        ensures added { OnOk result (HasInputs self.old inputs.now self.new) }
+        ensures refused { IfErr result (IsInputFault self.old inputs.now) }
+        ensures unchanged { OnErr result (self.new ≡ self.old) }
+    {
+        if !self.are_next(inputs) {
+            return Err(PastFault::Order);
+        }
+        self.inputs.append(inputs)?;
+        Ok(())
+    }
+
+    /// Runs on to a count, which becomes the end of the past. Returns the bytes that the machine sends on the way.
+    ///
+    /// It adds the keyframes up to the old end that are not there yet, within the budget, and then does at most `budget` instructions.
+    /// It ends before an instruction that sends a byte when there are `room` bytes already. If memory runs out, keyframes may have been
+    /// added, and the end is the old one.
+    pub fn run(
+        &mut self,
+        alloc: Global,
+        to: u64,
+        budget: Steps,
+        room: usize,
+    ) -> Result<Progress, PastFault>
+        ensures ran { IfOk result (HasRun self.old to room self.new) }
+        ensures refused { IfErr result (IsRunFault self.old to) }
+        ensures kept { OnErr result (IsLonger self.old self.new) }
+    {
+        if to < self.end {
+            return Err(PastFault::Earlier);
+        }
+        if to == self.end {
+            return Ok(Progress {
+                sent: Vec::new(alloc),
+                ending: Ending::Done,
+            });
+        }
+        if !self.approach(alloc, self.end, budget)? {
+            return Ok(Progress {
+                sent: Vec::new(alloc),
+                ending: Ending::More,
+            });
+        }
+        let within = to.min(self.end.saturating_add(budget.count));
+        let ran = self.run_from_end(alloc, within, room)?;
+        self.end = ran.end;
+        Ok(Progress {
+            sent: ran.sent,
+            ending: ending(ran.end, within, to),
+        })
+    }
+
+    /// Runs on from the end of the past.
+    fn run_from_end(&self, alloc: Global, to: u64, room: usize) -> Result<Stretch, AllocError>
+        requires { self.now.end ≤ to }
+        ensures { IfOk result (IsStretch self.now.run.inputs self.now.end to room (state_at self.now.run self.now.end)) }
+    {
+        let mut machine = self.machine(alloc, self.end)?;
+        run_with_room(alloc, &mut machine, &self.inputs, self.end, to, room)
+    }
+
+    /// Returns why a count is refused, if the past does not have it.
+    fn outside(&self, count: u64) -> Option<PastFault>
+        ensures some { IfSome result (IsOutside self.now count) }
+        ensures first { IfNone result (self.now.run.start ≤ count) }
+        ensures end { IfNone result (count ≤ self.now.end) }
+    {
+        if count < self.keyframes[0].count {
+            return Some(PastFault::Earlier);
+        }
+        if count > self.end {
+            return Some(PastFault::Later);
+        }
+        None
+    }
+
+    /// Reports whether inputs may be added.
+    fn are_next(&self, inputs: &[Event]) -> bool
+        ensures { IsTrue result ↔ AreNext self.now inputs.now }
+    {
+        let mut least = last_count(self.inputs.events()).max(self.end);
+        for event in inputs {
+            if event.count < least || event.count > MAX_COUNT {
+                return false;
+            }
+            least = event.count;
+        }
+        true
+    }
+}
+
+/// Returns the count of the last event, or 0 if there is none.
+fn last_count(events: &[Event]) -> u64
+    ensures { result ≡ count_before events.now (length events.now) }
+{
+    if events.is_empty() {
+        return 0;
+    }
+    events[events.len() - 1].count
+}
+
+/// Returns why a run ended at a count, if it was to come to `within` now, and to `to` in the end.
+fn ending(end: u64, within: u64, to: u64) -> Ending
+    ensures done { result ≡ Ending.Done → end ≡ to }
+    ensures more { result ≡ Ending.More → (end ≡ within) × (end ≢ to) }
+    ensures no_room { result ≡ Ending.NoRoom → end ≢ within }
+{
+    if end == to {
+        return Ending::Done;
+    }
+    if end == within {
+        return Ending::More;
+    }
+    Ending::NoRoom
+}
