@@ -7,3 +7,4 @@ mod Cutting
 mod Following
 mod Staying
 mod Adding
+mod Searches

@@ -1,5 +1,6 @@
--- The past of a run. Read it in this order: a run, a past, what it answers, how it changes.
+-- The past of a run. Read it in this order: a run, a past, what it answers, how it changes, what searches find in it.
 pub mod Run
 pub mod Past
 pub mod Live
+pub mod Search
 pub mod inner

@@ -253,7 +253,7 @@ impl Past {
     }
 
     /// Returns the count of the last keyframe at or before a count.
-    fn nearest_count(&self, count: u64) -> u64
+    pub(crate) fn nearest_count(&self, count: u64) -> u64
         requires { self.now.run.start ≤ count }
         ensures { result ≡ nearest_count self.now count }
     {
