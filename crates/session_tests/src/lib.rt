@@ -1,7 +1,7 @@
-//! Tests of `oberon_session` and `oberon_past`: sessions that are made of their parts, the names of faults, and the past of a machine
-//! that runs on.
+//! Tests of `oberon_session` and `oberon_past`: sessions that are made of their parts, the names of faults, the past of a machine that
+//! runs on, and searches of a past.
 //!
-//! The tests use only public names. They are in a crate of their own, so that the tested crate is proved once, without them.
+//! The tests use only public names. They are in a crate of their own, so that the tested crates are proved once, without them.
 #![tactic(auto)]
 
 #[cfg(test)]

@@ -1,6 +1,7 @@
-//! Sessions that are made of their parts, what their faults are called, and the past of a machine that runs on.
+//! Sessions that are made of their parts, what their faults are called, the past of a machine that runs on, and searches of a past.
 
 mod disk;
 mod faults;
 mod parts;
 mod past;
+mod searches;
