@@ -121,6 +121,8 @@ impl Past {
     ) -> Result<Answer, AllocError>
         // It is the answer of the one run.
         ensures answer { IfOk result (IsAnswer self.old.run self.old.end count from) }
+        // Only a question about counts of the past can fail.
+        ensures inside { OnErr result (IsInside self.old.run self.old.end count from) }
         // The past is of the same run, with keyframes added.
         ensures longer { IsLonger self.old self.new }
         // Either of them leaves keyframes near what was asked, or one more.
@@ -140,7 +142,8 @@ impl Past {
     /// It runs only to the count `from`, for at most one spacing; if no keyframe is that near, the answer is `More`, and `at` can be asked
     /// about `from`.
     pub fn near(&self, alloc: Global, count: u64, from: Option<u64>) -> Result<Answer, AllocError>
-        ensures { IfOk result (IsNearAnswer self.now count from) }
+        ensures answer { IfOk result (IsNearAnswer self.now count from) }
+        ensures inside { OnErr result (IsInside self.now.run self.now.end count from) }
     {
         if let Some(refused) = self.refused(count, from) {
             return Ok(refused);
