@@ -1,8 +1,9 @@
 /* Galluspa for C: checks, records and migrates recordings of the RISC5 workstation, runs the proved emulator, searches a run,
- * counts its instructions, follows its calls, and makes a recording while an emulator runs.
+ * counts its instructions, follows its calls, keeps its past, and makes a recording while an emulator runs.
  *
- * The caller owns all memory. Each function works on the caller's buffers and keeps nothing: there are no handles, nothing has to
- * be freed, and threads may call at the same time. The caller sees to this:
+ * Each function but those of a galluspa_past works on the caller's buffers and keeps nothing, so nothing has to be freed, and threads
+ * may call at the same time. A galluspa_past, at the end of this header, is a handle: it is opened, asked, and closed. The caller
+ * sees to this:
  *
  *   - each pointer is to valid memory of the length that is passed with it, aligned for its type; no pointer is NULL, not even that
  *     of an empty buffer;
@@ -12,8 +13,9 @@
  * Nothing else is asked of the caller: each number is tested, and one that is out of its range is refused.
  *
  * A function that writes an answer writes it to the front of the buffer, and leaves the bytes after it as they were. A call that is
- * refused writes nothing. There are three exceptions, each said where its function is declared: *out_count at GALLUSPA_NO_ROOM, the
- * two counts of galluspa_claims then, and the records of galluspa_records at GALLUSPA_OUT_OF_MEMORY.
+ * refused writes nothing. There are four exceptions, each said where its function is declared: *out_count and *changed_count at
+ * GALLUSPA_NO_ROOM, the two counts of galluspa_claims then, the records of galluspa_records at GALLUSPA_OUT_OF_MEMORY, and a
+ * galluspa_past, which a refused galluspa_past_open or galluspa_past_begin closes.
  *
  * A recording and a session are bytes in the formats of docs/formats.md. docs/from-c.md is a walk through this header. */
 #ifndef GALLUSPA_H
@@ -38,7 +40,7 @@ enum {
 enum { GALLUSPA_NO_ANSWER = 0 };
 
 /* What galluspa_claim, galluspa_claims, galluspa_advance, galluspa_find, galluspa_hits, galluspa_profile, galluspa_records,
- * galluspa_calls, galluspa_begin and galluspa_extend return. */
+ * galluspa_calls, galluspa_begin, galluspa_extend and the calls with a galluspa_past return. */
 enum {
     GALLUSPA_DONE = 0,
     GALLUSPA_OUT_OF_RANGE = 1,         /* a number is out of its range, a length is wrong, or inputs are out of order */
@@ -51,7 +53,10 @@ enum {
     GALLUSPA_TOO_MUCH_OUTPUT = 8,      /* .. more than 1,048,576 bytes sent */
     GALLUSPA_TOO_MANY_PAGES = 9,       /* .. more than 65,536 pages */
     GALLUSPA_PENDING_INPUTS = 10,      /* the recording has inputs at or after its last checkpoint */
-    GALLUSPA_NOT_FOUND = 11            /* of galluspa_find alone: no condition holds at any of the counts */
+    GALLUSPA_NOT_FOUND = 11,           /* of galluspa_find alone: no condition holds at any of the counts */
+    GALLUSPA_MORE = 12,                /* of a galluspa_past: the budget is spent; call again to go on */
+    GALLUSPA_CLOSED = 13,              /* of a galluspa_past: none is open */
+    GALLUSPA_LATER = 14                /* of a galluspa_past: a count is after its end */
 };
 
 /* The state of a machine without its memory: 144 bytes. The fields are those of a checkpoint in a recording. A function that writes
@@ -360,6 +365,76 @@ typedef struct {
 uint8_t galluspa_calls(galluspa_state *state, uint32_t *words, size_t words_len, const galluspa_input *inputs, size_t inputs_len,
                        uint64_t to, uint32_t limit, galluspa_call *calls, size_t calls_len, size_t *calls_count, galluspa_turn *turns,
                        size_t turns_len, size_t *turns_count);
+
+/* ---- The past of a run ----
+ *
+ * A past is a run that the library keeps: an initial state, inputs, and keyframes, from which it has the state of each count. All that
+ * it answers is of one run, that from the initial state with these inputs, as galluspa_advance does it; no claim of a recording is
+ * used. The answer does not depend on budgets, on keyframes, or on what was asked before.
+ *
+ * A galluspa_past is 16 bytes of yours, all zeros if no past is open: write galluspa_past past = {0}. Do not copy it while it is open,
+ * and change nothing in it. Each call with one takes a past that is open, or zeros: then it returns GALLUSPA_CLOSED and does nothing.
+ * Close it to free its memory. A past serves one call at a time, of any thread; different pasts may be called at the same time.
+ *
+ * Memory: a past holds 1,024 bytes for each page that differs from the keyframe before, 4,400 bytes for each keyframe, 16 for each
+ * input, and during a call what galluspa_advance holds twice. Keyframes are added as they are needed, and none is dropped. If an
+ * allocation fails, the call returns GALLUSPA_OUT_OF_MEMORY; the past stays open, of the same run, and what it has found out is kept. */
+typedef struct {
+    void *past;       /* the library's */
+    uint64_t is_open; /* 0 if no past is open */
+} galluspa_past;
+
+/* Opens the past of a recording, of any version: its initial state, its inputs, and its end, the count of its last checkpoint. A past
+ * that is open in *past is closed first. spacing is how many instructions are between two keyframes: at least 65,536, or 0 for
+ * 1,048,576. Returns GALLUSPA_DONE; or GALLUSPA_OUT_OF_RANGE (spacing), GALLUSPA_NO_RECORDING or GALLUSPA_OUT_OF_MEMORY (never for
+ * bytes that are not a valid recording), and then *past is zeros. Takes as long as galluspa_claim. */
+uint8_t galluspa_past_open(galluspa_past *past, const uint8_t *recording, size_t recording_len, uint64_t spacing);
+
+/* Opens the past of a machine that begins with this state and has no inputs. Its end is the state's count, which may be above 0: it has
+ * this one count. A past that is open in *past is closed first. words_len is GALLUSPA_WORDS, and spacing is as for galluspa_past_open.
+ * Returns GALLUSPA_DONE; or GALLUSPA_OUT_OF_RANGE, for spacing, words_len, or a number of the state, or GALLUSPA_OUT_OF_MEMORY (only if
+ * all is in range), and then *past is zeros. */
+uint8_t galluspa_past_begin(galluspa_past *past, const galluspa_state *state, const uint32_t *words, size_t words_len,
+                            uint64_t spacing);
+
+/* Frees a past, and writes zeros to it. A second call does nothing. */
+void galluspa_past_close(galluspa_past *past);
+
+/* Where a past is: 48 bytes. */
+typedef struct {
+    uint64_t first;     /* the first count */
+    uint64_t end;       /* the last count that can be asked about */
+    uint64_t reached;   /* the count of the last keyframe: an answer about a count far after it has to run first */
+    uint64_t keyframes; /* how many keyframes it has */
+    uint64_t pages;     /* how many pages these have */
+    uint64_t inputs;    /* how many inputs it has */
+} galluspa_extent;
+
+/* Writes where a past is. Returns GALLUSPA_DONE or GALLUSPA_CLOSED. */
+uint8_t galluspa_past_extent(galluspa_past *past, galluspa_extent *extent);
+
+/* The count `from` of a caller that has the memory of no count. */
+#define GALLUSPA_NO_COUNT UINT64_MAX
+
+/* Goes to the count at: writes its state, and those pages of its memory that differ from those at the count from, to the front of
+ * changed, in the order of their slots. slots, which has 1,024 elements, gets the slot of each at the same index, 0 to 1,023: a page has
+ * the words from 256 times its slot on. *changed_count gets their number. from is the count whose memory you have, which may be
+ * after at, or GALLUSPA_NO_COUNT: then the pages that are not all zeros are written. 1,024 pages are always enough.
+ *
+ * The past first runs on as far as it needs, and adds keyframes. budget is how many instructions it may do, those of idle loops that
+ * are passed over too; beside these a call does at most some three spacings of instructions.
+ *
+ * Returns GALLUSPA_DONE; GALLUSPA_MORE if the budget is spent: a keyframe was added, so call again with the same numbers, or do not to
+ * cancel; GALLUSPA_NO_ROOM, and then *changed_count says how many pages differ; GALLUSPA_OUT_OF_RANGE if budget is 0, or one of the
+ * counts is before the first; GALLUSPA_LATER if one of them is after the end; GALLUSPA_CLOSED; or GALLUSPA_OUT_OF_MEMORY (never for
+ * a count that is outside the past). Unless it is GALLUSPA_DONE nothing else is written. */
+uint8_t galluspa_past_at(galluspa_past *past, uint64_t at, uint64_t from, uint64_t budget, galluspa_state *state,
+                         uint16_t slots[1024], galluspa_page *changed, size_t changed_len, size_t *changed_count);
+
+/* Goes to the last keyframe at or before the count at, at once: for a picture while galluspa_past_at takes its time. Its count is
+ * state->count. Returns as galluspa_past_at does; GALLUSPA_MORE if from is more than a spacing after the last keyframe. */
+uint8_t galluspa_past_near(galluspa_past *past, uint64_t at, uint64_t from, galluspa_state *state, uint16_t slots[1024],
+                           galluspa_page *changed, size_t changed_len, size_t *changed_count);
 
 #ifdef __cplusplus
 }

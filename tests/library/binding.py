@@ -10,6 +10,8 @@ from tests.library.header import SIZES, fields_of, laid_out
 from tests.library.trial import expect, fail
 
 WORDS = 262144
+# The count `from` of a caller that has no memory.
+NO_COUNT = 2**64 - 1
 TYPES: dict[str, Any] = {"u8": ctypes.c_uint8, "u32": ctypes.c_uint32, "u64": ctypes.c_uint64}
 Words = ctypes.Array[ctypes.c_uint32]
 # A condition of a search: its kind, the first and the end of its range, and its value.
@@ -66,6 +68,16 @@ class Claimed(ctypes.Structure):
     _fields_ = [("state", State), ("sent_count", ctypes.c_uint64), ("pages", ctypes.c_uint32 * 1024)]
 
 
+class Past(ctypes.Structure):
+    """The handle of a past."""
+
+    _fields_ = [("past", ctypes.c_void_p), ("is_open", ctypes.c_uint64)]
+
+
+class Extent(ctypes.Structure):
+    _fields_ = [(name, ctypes.c_uint64) for name in ("first", "end", "reached", "keyframes", "pages", "inputs")]
+
+
 Inputs = Sequence[Input] | ctypes.Array[Input]
 
 
@@ -80,6 +92,9 @@ class Library:
             getattr(self.c, f"galluspa_{name}").restype = ctypes.c_size_t
         for name in ("claim", "claims", "advance", "find", "hits", "profile", "records", "calls", "begin", "extend"):
             getattr(self.c, f"galluspa_{name}").restype = ctypes.c_uint8
+        for name in ("open", "begin", "extent", "at", "near"):
+            getattr(self.c, f"galluspa_past_{name}").restype = ctypes.c_uint8
+        self.c.galluspa_past_close.restype = None
 
     def answer(self, name: str, given: bytes, room: int) -> tuple[int, bytes, int]:
         """Returns the result, what was written at the front of `room` bytes, whether anything was written, and the status."""
@@ -305,3 +320,50 @@ class Library:
             (text, size(len(text)), given, size(len(inputs)), ctypes.byref(state), words, size(len(words)), sent, size(len(sent))),
             room,
         )
+
+    def open_past(self, past: Past, text: bytes, spacing: int = 0) -> int:
+        """Returns the result of opening the past of a recording. The handle is to be zeros if it is refused."""
+        code: int = self.c.galluspa_past_open(ctypes.byref(past), text, ctypes.c_size_t(len(text)), ctypes.c_uint64(spacing))
+        expect("whether a past is open", past.is_open, int(not code))
+        expect("whether a past has memory", bool(past.past), not code)
+        return code
+
+    def begin_past(self, past: Past, state: State, words: Words, spacing: int = 0) -> int:
+        """Returns the result of beginning the past of a machine. The handle is to be zeros if it is refused."""
+        size = ctypes.c_size_t(len(words))
+        code: int = self.c.galluspa_past_begin(ctypes.byref(past), ctypes.byref(state), words, size, ctypes.c_uint64(spacing))
+        expect("whether a past is begun", past.is_open, int(not code))
+        expect("whether a past that is begun has memory", bool(past.past), not code)
+        return code
+
+    def close_past(self, past: Past) -> None:
+        """Closes a past: the handle is then zeros."""
+        self.c.galluspa_past_close(ctypes.byref(past))
+        expect("a past that is closed", bytes(past), bytes(16))
+
+    def extent(self, past: Past) -> tuple[int, Extent]:
+        """Returns the result, and where a past is. Nothing is to be written if it is refused."""
+        extent = Extent(77)
+        code = self.c.galluspa_past_extent(ctypes.byref(past), ctypes.byref(extent))
+        if code and bytes(extent) != bytes(Extent(77)):
+            fail("an extent that was refused is written")
+        return code, extent
+
+    def look(
+        self, past: Past, at: int, since: int = NO_COUNT, budget: int | None = 1 << 40, room: int = 1024
+    ) -> tuple[int, State, list[tuple[int, bytes]], int]:
+        """Returns the result of a question about a count, the state, the pages with their slots, and how many differ. Without a budget it is
+        that about the keyframe before the count. Nothing but the count is to be written if it is refused, and nothing after the pages.
+        """
+        state, slots, pages, count = State(count=77), (ctypes.c_uint16 * 1024)(), (Page * room)(), ctypes.c_size_t(77)
+        ctypes.memset(slots, 0xAA, ctypes.sizeof(slots))
+        ctypes.memset(pages, 0xAA, ctypes.sizeof(pages))
+        asked = [ctypes.byref(past), *(ctypes.c_uint64(it) for it in (at, since, budget) if it is not None)]
+        written = ctypes.byref(state), slots, pages, ctypes.c_size_t(room), ctypes.byref(count)
+        code = getattr(self.c, f"galluspa_past_{'near' if budget is None else 'at'}")(*asked, *written)
+        if code and (bytes(state) != bytes(State(count=77)) or (code != 2 and count.value != 77)):
+            fail("a question that was refused writes something")
+        number = 0 if code else count.value
+        if (bytes(slots)[2 * number :] + bytes(pages)[1024 * number :]).strip(b"\xaa"):
+            fail("a question writes after its pages")
+        return code, state, [(slots[i], bytes(pages[i])) for i in range(number)], count.value

@@ -10,6 +10,7 @@ from tests.library.trial import CRATE, TOP, WARNINGS, expect, fail, run
 # How a type of an export's parameter is declared in C; a slice is a pointer and a length.
 SCALARS = {
     "u8": "uint8_t",
+    "u16": "uint16_t",
     "u32": "uint32_t",
     "u64": "uint64_t",
     "usize": "size_t",
@@ -22,8 +23,12 @@ SCALARS = {
     "RawRecord": "galluspa_trace_record",
     "Call": "galluspa_call",
     "RawTurn": "galluspa_turn",
+    "RawPast": "galluspa_past",
+    "RawExtent": "galluspa_extent",
 }
-SIZES = {"u8": 1, "u32": 4, "u64": 8}
+SIZES = {"u8": 1, "u16": 2, "u32": 4, "u64": 8}
+# The struct whose first field is private: a pointer, which only the library reads.
+HANDLE = "RawPast"
 # The limits of the header that are constants of other crates: what they are called there, and where.
 LIMITS = {
     "WORDS": ("MEMORY_WORDS", "risc_pages/src/sizes.rt"),
@@ -57,25 +62,28 @@ def group(pattern: str, text: str, flags: int = re.MULTILINE) -> str:
 
 
 def declared(kind: str) -> list[str]:
-    """Returns how C declares the parameters of a type: one, or the two of a slice."""
+    """Returns how C declares the parameters of a type: one, also of an array, or the two of a slice."""
     slice_of = re.fullmatch(r"&(mut )?\[(\w+)\]", kind)
     if slice_of:
         return [("" if slice_of[1] else "const ") + SCALARS[slice_of[2]] + " *", "size_t"]
+    array = re.fullmatch(r"&(mut )?\[(\w+); (\d+)\]", kind)
+    if array:
+        return [("" if array[1] else "const ") + f"{SCALARS[array[2]]} [{array[3]}]"]
     one = re.fullmatch(r"&(mut )?(\w+)", kind)
     return [("" if one[1] else "const ") + SCALARS[one[2]] + " *"] if one else [SCALARS[kind]]
 
 
 def exports() -> Iterator[tuple[str, list[tuple[str, str]], str]]:
-    """Yields each export of the crate: its name, its parameters but for the allocator, and its result."""
+    """Yields each export of the crate: its name, its parameters but for the allocator, and its result, which may be empty."""
     text = "".join(file.read_text() for file in sorted((CRATE / "src").glob("*.rt")))
-    for name, parameters, result in re.findall(r'pub extern "C" fn (\w+)\(\n(.*?)\n\) -> (\w+)\n', text, re.S):
-        pairs = [line.strip().rstrip(",").split(": ") for line in parameters.split("\n")]
+    for name, parameters, result in re.findall(r'pub extern "C" fn (\w+)\((.*?)\)(?: -> (\w+))?\n', text, re.S):
+        pairs = [it.strip().split(": ") for it in parameters.split(",") if it.strip()]
         yield name, [(own, kind) for own, kind in pairs][1:], result
 
 
 def fields_of(name: str) -> list[tuple[str, str]]:
     """Returns the fields of a struct of the crate, in order."""
-    files = ("raw.rt", "conditions.rt", "claims.rt", "records.rt", "calls.rt")
+    files = ("raw.rt", "conditions.rt", "claims.rt", "records.rt", "calls.rt", "past.rt")
     text = "".join((CRATE / "src" / file).read_text() for file in files)
     text += (CRATE.parent / "risc_model/src/call.rt").read_text()
     body = group(rf"#\[repr\(C\)\]\n(?:#[^\n]*\n)*pub struct {name} {{\n(.*?)\n}}", text, re.S)
@@ -114,6 +122,8 @@ def constants() -> Iterator[tuple[str, int]]:
     text = (CRATE / "src/conditions.rt").read_text()
     yield from ((f"GALLUSPA_{name}", kind) for name, kind in kinds(text))
     yield "GALLUSPA_AND", 1 << int(group(r"^pub const JOINED: u32 = 1 << (\d+);$", text))
+    group(r"^pub const (NO_COUNT): u64 = u64::MAX;$", (CRATE / "src/moments.rt").read_text())
+    yield "GALLUSPA_NO_COUNT", (1 << 64) - 1
     text = (CRATE / "src/find.rt").read_text()
     first, last = re.findall(r"if wanted == (\d+) {\s*find_first\(.*?} else {\s*find_last\(.*?wanted > (\d+)", text, re.S)[0]
     yield from (("GALLUSPA_FIRST", int(first)), ("GALLUSPA_LAST", int(last)))
@@ -134,8 +144,10 @@ def header_test() -> str:
     lines = ['#include "galluspa.h"']
     for name, parameters, result in exports():
         types = [kind for _, given in parameters for kind in declared(given)]
-        lines.append(f"{SCALARS[result]} {name}({', '.join(types)});")
-    structs = [(name, c_name) for name, c_name in SCALARS.items() if c_name.startswith("galluspa_")]
+        lines.append(f"{SCALARS[result] if result else 'void'} {name}({', '.join(types)});")
+    lines.append('_Static_assert(sizeof(galluspa_past) == 16 && offsetof(galluspa_past, is_open) == 8, "the handle");')
+    lines.append('_Static_assert(_Generic(((galluspa_past *)0)->is_open, uint64_t: 1, default: 0), "whether it is open");')
+    structs = [(name, c_name) for name, c_name in SCALARS.items() if c_name.startswith("galluspa_") and name != HANDLE]
     for struct_name, c_name in structs:
         fields, size = laid_out(fields_of(struct_name))
         lines.append(f'_Static_assert(sizeof({c_name}) == {size}, "size of {c_name}");')
@@ -147,7 +159,7 @@ def header_test() -> str:
     lines += [
         f'_Static_assert(offsetof(galluspa_state, {it}) == {at}, "where {it} always was");' for it, at in STATE_OFFSETS.items()
     ]
-    lines += [f'_Static_assert({name} == {value}, "{name}");' for name, value in constants()]
+    lines += [f'_Static_assert({name} == {value}u, "{name}");' for name, value in constants()]
     return "\n".join(lines) + "\n"
 
 
@@ -160,7 +172,7 @@ def declared_constants() -> dict[str, str]:
 def c_names(header: str) -> Iterator[tuple[str, list[str]]]:
     """Yields the names of the parameters of each function that the header declares; a length after its pointer is left out."""
     for name, parameters in re.findall(r"^\w+ (galluspa_\w+)\((.*?)\);", header, re.S | re.M):
-        names = [group(r"(\w+)$", it.strip()) for it in parameters.split(",")]
+        names = [group(r"(\w+)(?:\[\d+\])?$", it.strip()) for it in parameters.split(",")]
         yield name, [it for it in names if not any(it == f"{other}_len" for other in names)]
 
 
@@ -194,6 +206,13 @@ def compare_header(folder: Path) -> list[str]:
         ("    uint32_t old_value; ", "    uint32_t older_value; "),
         ("size_t galluspa_migrate(const ", "size_t galluspa_migrate("),
         ("WORDS = 262144", "WORDS = 262145"),
+        ("CLOSED = 13", "CLOSED = 15"),
+        ("NO_COUNT UINT64_MAX", "NO_COUNT UINT32_MAX"),
+        ("    uint64_t is_open; ", "    uint32_t is_open; "),
+        ("    uint64_t reached; ", "    uint64_t came_to; "),
+        ("uint16_t slots[1024]", "uint32_t slots[1024]"),
+        ("uint16_t slots[1024]", "uint16_t slots[1023]"),
+        ("galluspa_past *past, uint64_t at, uint64_t from", "galluspa_past *past, uint64_t at, uint32_t from"),
         ("GALLUSPA_AND 0x80000000u", "GALLUSPA_AND 0x40000000u"),
         ("uint32_t wanted,\n                      galluspa_hit *hit", "galluspa_hit *hit,\n                      uint32_t wanted"),
         (

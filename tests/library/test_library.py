@@ -6,7 +6,7 @@ from pathlib import Path
 
 import pytest
 
-from tests.library import calls, counts, examples, followed, header, refusals, searches
+from tests.library import calls, counts, examples, followed, header, pasts, refusals, searches
 from tests.library.binding import Library
 from tests.library.trial import EXAMPLES, TOP, WARNINGS, expect, run
 
@@ -28,6 +28,9 @@ TRIALS: Sequence[Callable[[Library], None]] = (
     followed.follow_idle_loops,
     followed.refuse_calls,
     refusals.refuse_making,
+    pasts.keep_pasts,
+    pasts.begin_pasts,
+    pasts.refuse_pasts,
     calls.call_together,
     calls.read_together,
     calls.read_longest,
@@ -62,6 +65,11 @@ def test_checks(library: Library, check: str, tmp_path: Path) -> None:
 def test_memory_that_is_refused(flags: Sequence[str], tmp_path: Path) -> None:
     """Each memory request of the calls is refused in turn."""
     refusals.refuse_memory(tmp_path, flags)
+
+
+def test_memory_that_is_refused_to_a_past(flags: Sequence[str], tmp_path: Path) -> None:
+    """Each memory request of the calls with a past is refused in turn."""
+    pasts.refuse_memory(tmp_path, flags)
 
 
 def test_find_in_c(flags: Sequence[str], tmp_path: Path) -> None:

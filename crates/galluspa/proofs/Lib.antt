@@ -14,3 +14,6 @@ mod ExtendLemmas
 mod RecordLemmas
 mod JoinLemmas
 pub mod OpenLemmas
+mod LooseValues
+mod MomentLemmas
+mod SealedValues

@@ -1,6 +1,6 @@
 -- The laws that join the calls of a caller into one run, with the law of `risc_model` that a run continues a run (`RunLaw`), and
 -- that make the recordings of such a run true; and the numbers that a caller gets.
-use Rattle.std.specs.Prelude.{ℕ, ◌≡◌, ◌+◌, ◌<◌, ◌≤◌, List, ◌++◌, length}
+use Rattle.std.specs.Prelude.{ℕ, ◌≡◌, ◌+◌, ◌-◌, ◌^◌, ◌<◌, ◌≤◌, List, ◌++◌, length}
 use Rattle.std.specs.List.{All}
 use Rattle.risc_model.specs.declared.call.Call.{Call}
 use Rattle.risc_model.specs.declared.event.Event.{Event}
@@ -21,7 +21,8 @@ use Rattle.oberon_answers.specs.Record.{IsAcceptedIn}
 use Rattle.galluspa.specs.declared.conditions.RawCondition.{RawCondition}
 use Rattle.galluspa.specs.declared.raw.RawInput.{RawInput}
 use Rattle.galluspa.specs.declared.raw.RawState.{RawState}
-use Rattle.galluspa.specs.declared.refusal.TheConstants.{DONE, NO_ANSWER, NO_CHECKPOINT, NO_RECORDING, NO_ROOM, NOT_FOUND}
+use Rattle.galluspa.specs.declared.refusal.TheConstants.{CLOSED, DONE, LATER, MORE, NO_ANSWER, NO_CHECKPOINT, NO_RECORDING, NO_ROOM, NOT_FOUND}
+use Rattle.galluspa.specs.declared.moments.TheConstants.{NO_COUNT}
 use Rattle.galluspa.specs.declared.refusal.TheConstants.{OUT_OF_MEMORY, OUT_OF_RANGE, PENDING_INPUTS}
 use Rattle.galluspa.specs.declared.refusal.TheConstants.{TOO_MANY_CHECKPOINTS, TOO_MANY_INPUTS, TOO_MANY_PAGES, TOO_MUCH_OUTPUT}
 use Rattle.galluspa.specs.Advance.{HasRun}
@@ -115,5 +116,9 @@ pub record HasCodes : Type 0 where
   pub too_many_pages : TOO_MANY_PAGES ≡ 9
   pub pending_inputs : PENDING_INPUTS ≡ 10
   pub not_found : NOT_FOUND ≡ 11
+  pub more : MORE ≡ 12
+  pub closed : CLOSED ≡ 13
+  pub later : LATER ≡ 14
+  pub no_count : NO_COUNT ≡ 2 ^ 64 - 1
   pub no_answer : NO_ANSWER ≡ 0
   pub words : MEMORY_WORDS ≡ 262144

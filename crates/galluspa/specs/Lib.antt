@@ -10,5 +10,6 @@ pub mod Hits
 pub mod Profile
 pub mod Records
 pub mod Calls
+pub mod Past
 pub mod Laws
 pub mod inner

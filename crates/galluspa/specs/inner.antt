@@ -7,3 +7,5 @@ pub mod Running
 pub mod Hits
 pub mod Counting
 pub mod Following
+pub mod Held
+pub mod Moments

@@ -41,6 +41,15 @@ pub const PENDING_INPUTS: u8 = 10;
 /// No condition of a search holds at any of its counts.
 pub const NOT_FOUND: u8 = 11;
 
+/// The budget is spent: call again to go on.
+pub const MORE: u8 = 12;
+
+/// No past is open.
+pub const CLOSED: u8 = 13;
+
+/// A count is after the end of the past.
+pub const LATER: u8 = 14;
+
 /// Why a call did nothing that gives a caller no bytes of its own: room is never short.
 #[derive(Clone, Copy)]
 pub enum RangeOrMemory {

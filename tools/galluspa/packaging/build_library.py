@@ -40,7 +40,7 @@ STAMP = OUT / f"{LIBRARY}.stamp"
 EXPORTED = re.compile(
     r"(?m)((?:^///.*\n)*)^#\[unsafe\(no_mangle\)\]\n(pub extern \"C\" fn (\w+)\(((?:[^()]|\([^()]*\))*)\)[^\n]*\n(?:    .*\n)*)\{\n"
 )
-PARAMETER = re.compile(r"(?m)^ *(\w+):")
+PARAMETER = re.compile(r"(?m)(?:^ *|, )(\w+):")
 GHOST_USE = re.compile(r"(?m)^ghost use ([\w.]+)\.\{(.*)\};$")
 USE = re.compile(r"(?m)^use ((?!crate\b)\w+(?:::\w+)*)::(?:\{([^}]*)\}|(\w+));$")
 

@@ -1,0 +1,53 @@
+-- `open` gives the box's pointer its type again.
+use Rattle.std.proofs.Common.{◌≡◌, List, [], ◌∷◌, ◌++◌, refl, sym, subst}
+use mir.Val.{Val, vptr}
+use base.Logic.{SProp, ent, emp, id⊢}
+use prog.Wp.{WpFn}
+use contract.Monad.{fact, fact_i}
+use contract.Running.{tables}
+use types.Kit.{‵, raw, ◌⊛◌, ◌$◌, ◌∵◌, !, qed, by, move, keep, use0, split, fsplit, fjoin, suffices}
+use types.Run.{stop, fld, of_opd, no_more, and_then, returns, enter}
+use types.ByLocal.{alloc_all, pass_all, free_all, look_at, get, get_in, sets}
+use types.Part.{agg, sub, whole}
+use denote.RattleType.{owns}
+use denote.Exit.{yes}
+use denote.Signature.{types_at, plain}
+use denote.RawPtr.{block_ptr}
+use denote.Steps.{nothing, heard}
+use denote.Triple.Entry.{alive}
+use denote.Triple.Walked.{Stays, stay_dropped, walk_of}
+use Rattle.core.proofs.alloc.Calls.{Goes-blank}
+use Rattle.std.proofs.raw_atomic.Walks.{proved_at, leaves}
+use Rattle.std.specs.Prelude.{Some, IsSome}
+use Rattle.std.specs.contracts.alloc.Global as heap
+use Rattle.std.proofs.alloc.Global.TheLaws as heap_laws
+use Rattle.std.specs.contracts.impls.GlobalAllocator.TheImpl as heap_impl
+use Rattle.oberon_past.specs.contracts.past.Past as past
+use Rattle.galluspa.specs.contracts.loose.Loose as loose
+use Rattle.galluspa.specs.contracts.sealed.Sealed as sealed
+use Rattle.galluspa.proofs.LooseValues.{both, loose_good, loose_in}
+use Rattle.galluspa.proofs.SealedValues.{some_of, sealed_out}
+use Rattle.galluspa.specs.contracts.sealed.Sealed.open.{ended, clauses}
+use Rattle.galluspa.specs.contracts.sealed.Sealed.open.Key.{name as #self}
+use Rattle.galluspa.proofs.sealed.Sealed.open.Statement.{statement}
+use Rattle.galluspa.proofs.sealed.Sealed.open.Code as code
+
+pub open_spec : {M : Type 1} → statement M
+open_spec 𝓤 𝓛 𝓜 𝓡 wired =
+    let H = 𝓛.H in let 𝓣 = tables 𝓤 H 𝓜 𝓡 𝓡.env in let R = past.the_row in let Z = heap.the_row in let LZ = heap_laws.the_row_laws in let g = heap_impl.ghosts in
+    let c = clauses 𝓛 𝓜.mem 𝓡.returns in let fn = code.function in
+    let hs : Stays ended.signature.params ended.kept = (stay_dropped (plain (λ _. sealed.the_row)) yes, tt) in
+    proved_at 𝓛 ended hs c 𝓜 𝓡 (Goes-blank 𝓛 0 (plain (λ _. sealed.the_row)) yes (λ κs x f. tt), tt) #self fn (code.unfolded 𝓤 H 𝓜 𝓡 wired) (λ z are.
+    let v = z.0.3.0 in let Post : Val → SProp 𝓤 = (walk_of 𝓛 ended hs c).post z in let Run : List Val → SProp 𝓤 = λ ws. WpFn 𝓤 H 𝓣.C 𝓣.Λ fn ws Post in
+    qed 𝓛 ((raw (alive 𝓛 ended.signature z.0.0 z.0.1) ⊛ ‵ (owns (types_at ended.signature.params z.0.0) z.0.3 z.0.4)) ∷ raw (fact 𝓤 (IsSome v.past)) ∷ []) ∵
+    move ! (1 ∷ []) $ heard ! (IsSome v.past) (λ is. let found = some_of v.past is in let p = found.0 in let asked = found.1 in split ! $ move ! (1 ∷ []) $ fsplit ! $ sealed_out ! v p z.0.4.0 asked (λ b o h ws fits.
+    let w : Val = both (vptr b o) h in let good = loose_good R Z LZ g b o h fits in let made : (loose.the_row R Z g).Denot = record { at = block_ptr b o; alloc = v.alloc; value = p } in
+    suffices ! (Run (w ∷ [])) (subst (λ (us : List Val). ent 𝓤 (Run (w ∷ [])) (Run us)) (sym (λ i. ws i ++ [])) (id⊢ 𝓤 (Run (w ∷ [])))) $
+    enter ! 𝓣.C 𝓣.Λ fn (w ∷ []) Post $ alloc_all ! (λ l. pass_all ! refl (good, tt) $
+    sets ! (of_opd ! (get_in ! (fld ! refl (stop !)) (sub ! 0 refl (whole !)))) refl (tt, tt) $
+    sets ! (of_opd ! (get_in ! (fld ! refl (stop !)) (sub ! 1 refl (whole !)))) refl fits $
+    sets ! (of_opd ! (get ! refl)) refl (tt, tt) $
+    sets ! (agg ! (and_then ! (get ! refl) (and_then ! (get ! refl) (no_more !)))) refl good $
+    returns ! (look_at ! 0 refl) $ free_all ! refl $ loose_in R Z LZ g ! b o h v.alloc p $
+    use0 𝓛 (raw (fact 𝓤 (v.past ≡ Some made.value))) (fact_i 𝓤 (v.past ≡ Some made.value) (emp 𝓤) asked) $ nothing ! $ nothing ! $ fjoin ! $ keep ! (4 ∷ 0 ∷ 2 ∷ 1 ∷ []) $
+    by ! (leaves 𝓛 ended hs c z w made (tt, tt) (tt, tt))))))

@@ -1,0 +1,105 @@
+/* Refuses each request for memory of the calls with a past in turn: they answer that memory ran out, the past stays of the same run, and
+ * nothing is held once it is closed. tests/library builds it with malloc, realloc and free wrapped. */
+#define _GNU_SOURCE
+#include "galluspa.h"
+#include <malloc.h>
+#include <stdio.h>
+#include <stdlib.h>
+#include <string.h>
+
+void *__real_malloc(size_t size);
+void *__real_realloc(void *old, size_t size);
+void __real_free(void *old);
+static unsigned long calls, refused;
+static size_t blocks;
+
+void *__wrap_malloc(size_t size) {
+    void *block = ++calls == refused ? NULL : __real_malloc(size);
+    blocks += block != NULL;
+    return block;
+}
+
+void *__wrap_realloc(void *old, size_t size) {
+    void *block = ++calls == refused ? NULL : __real_realloc(old, size);
+    blocks += !old && block;
+    return block;
+}
+
+void __wrap_free(void *old) {
+    blocks -= old != NULL;
+    __real_free(old);
+}
+
+enum { AT = 1000000, FROM = 200003, SPACING = 65536 };
+static uint8_t text[1 << 20];
+static uint32_t words[GALLUSPA_WORDS];
+static galluspa_state first, state, own_state;
+static galluspa_page pages[1024], own_pages[1024];
+static uint16_t slots[1024], own_slots[1024];
+static size_t text_len, own_count;
+
+static void fail(const char *what) {
+    printf("%s, request %lu\n", what, refused);
+    exit(1);
+}
+
+static uint8_t call(int which, galluspa_past *past, size_t *count) {
+    memset(&state, 0xAA, sizeof state), memset(slots, 0xAA, sizeof slots), memset(pages, 0xAA, sizeof pages);
+    *count = 77;
+    if (which == 0) return galluspa_past_open(past, text, text_len, SPACING);
+    if (which == 1) return galluspa_past_begin(past, &first, words, GALLUSPA_WORDS, SPACING);
+    if (which == 2) return galluspa_past_at(past, AT, FROM, UINT64_MAX, &state, slots, pages, 1024, count);
+    return galluspa_past_near(past, AT, GALLUSPA_NO_COUNT, &state, slots, pages, 1024, count);
+}
+
+static int is_kept(const void *bytes, size_t size) {
+    for (size_t i = 0; i < size; i++)
+        if (((const uint8_t *)bytes)[i] != 0xAA) return 0;
+    return 1;
+}
+
+/* Calls a function with one request refused, and then once more. Returns whether a request was refused. */
+static int answers(int which) {
+    galluspa_past past = {0};
+    size_t count, before = blocks;
+    unsigned long now = refused;
+    refused = 0;
+    if (which > 1 && call(0, &past, &count)) fail("it is not opened");
+    calls = 0, refused = now;
+    uint8_t result = call(which, &past, &count);
+    unsigned long made = calls;
+    if (result && result != GALLUSPA_OUT_OF_MEMORY) fail("another answer");
+    if (result && made < now) fail("no request was refused");
+    if (result && (count != 77 || !is_kept(&state, sizeof state) || !is_kept(slots, sizeof slots) || !is_kept(pages, sizeof pages))) fail("something is written");
+    if (which < 2 && (result == GALLUSPA_DONE) != (past.is_open != 0)) fail("it is open, or not");
+    if (which < 2 && result && (past.past || blocks != before)) fail("something is held");
+    refused = 0;
+    if (which > 1 && result && call(which, &past, &count)) fail("it is not answered again");
+    if (which == 2 && (count != own_count || memcmp(&state, &own_state, sizeof state) || memcmp(slots, own_slots, 2 * count) || memcmp(pages, own_pages, 1024 * count)))
+        fail("another state");
+    galluspa_past_close(&past);
+    if (past.past || past.is_open || blocks != before) fail("something is left");
+    refused = now;
+    return made >= now;
+}
+
+int main(int argc, char **argv) {
+    static const char *name[] = {"open", "begin", "at", "near"};
+    galluspa_past past = {0};
+    FILE *file = argc > 1 ? fopen(argv[1], "rb") : NULL;
+    if (!file) return 9;
+    text_len = fread(text, 1, sizeof text, file);
+    fclose(file);
+    if (galluspa_claim(text, text_len, 0, &first, words, GALLUSPA_WORDS)) return 9;
+    if (call(0, &past, &own_count) || call(2, &past, &own_count)) return 9;
+    own_state = state;
+    memcpy(own_slots, slots, sizeof slots), memcpy(own_pages, pages, sizeof pages);
+    galluspa_past_close(&past);
+    if (blocks) return 9;
+    for (int which = 0; which < 4; which++) {
+        for (refused = 1; answers(which);) refused++;
+        printf("%s%s %lu", which ? ", " : "", name[which], refused - 1);
+    }
+    puts("");
+    return 0;
+}

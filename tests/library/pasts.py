@@ -1,0 +1,204 @@
+"""The past of a run, against `galluspa_advance`: counts in any order, from any other, with any budget; and each refusal."""
+
+import ctypes
+import json
+import random
+from collections.abc import Sequence
+from pathlib import Path
+
+from tests.library.binding import NO_COUNT, WORDS, Library, Past, State, Words
+from tests.library.calls import inputs_and_last
+from tests.library.trial import EXAMPLES, FACE, PROGRAM, WARNINGS, expect, fail, run
+
+SPACING = 65_536
+# What a machine is at a count: its state and its words.
+Machine = tuple[bytes, bytes]
+
+
+class Run:
+    """The run of a recording, by `galluspa_advance` from its initial state."""
+
+    def __init__(self, library: Library, text: bytes) -> None:
+        self.library, self.text = library, text
+        self.inputs, last = inputs_and_last(text)
+        self.end: int = library.claim(text, last)[1].count
+        _, state, words = library.claim(text, 0)
+        self.known: dict[int, Machine] = {0: (bytes(state), bytes(words))}
+
+    def at(self, count: int) -> Machine:
+        """Returns the machine at a count."""
+        if count not in self.known:
+            before = max(it for it in self.known if it < count)
+            state, words = (
+                State.from_buffer_copy(self.known[before][0]),
+                (ctypes.c_uint32 * WORDS).from_buffer_copy(self.known[before][1]),
+            )
+            expect(f"an advance to {count}", self.library.advance(state, words, self.inputs, count)[0], 0)
+            self.known[count] = bytes(state), bytes(words)
+        return self.known[count]
+
+
+def recordings() -> Sequence[bytes]:
+    """Returns recordings of all versions; one has answers of a disk."""
+    session = json.loads((EXAMPLES / "clock.json").read_text())
+    session |= {"version": 3, "inputs": [[3, "disk", 0xFFFFFFFF], *session["inputs"]]}
+    session["start"] |= {"rate": 0, "phase": 0, "disk": 0x12345678}
+    texts = [(EXAMPLES / f"{name}.json").read_bytes() for name in ("hello", "keys", "snake")]
+    recorded = [run(PROGRAM, "record", given=it)[0] for it in texts]
+    with_disk = run(PROGRAM, "record", "--disk", given=json.dumps(session).encode())[0]
+    expect("the version of a recording with a disk", with_disk[4:8], b"\3\0\0\0")
+    return [*recorded, with_disk, FACE, (EXAMPLES / "face-version-1.orsr").read_bytes()]
+
+
+def compare_moment(own: Run, state: State, pages: Sequence[tuple[int, bytes]], at: int, since: int) -> None:
+    """A state and pages are those of the run: the pages are those that differ, in the order of their slots."""
+    wanted, words = own.at(at)
+    base = bytes(4 * WORDS) if since == NO_COUNT else own.at(since)[1]
+    expect(f"the state at {at}", bytes(state), wanted)
+    differ = [it for it in range(1024) if base[1024 * it : 1024 * it + 1024] != words[1024 * it : 1024 * it + 1024]]
+    expect(f"the pages at {at} from {since}", pages, [(it, words[1024 * it : 1024 * it + 1024]) for it in differ])
+
+
+def ask(library: Library, past: Past, own: Run, at: int, since: int, budget: int) -> int:
+    """Asks about a count until there is an answer, and compares it. Returns how often the budget was spent."""
+    spent = 0
+    keyframes = library.extent(past)[1].keyframes
+    while (found := library.look(past, at, since, budget))[0] == 12:
+        spent += 1
+        expect("a keyframe more", (now := library.extent(past)[1].keyframes) > keyframes, True)
+        keyframes = now
+    code, state, pages, number = found
+    expect(f"a question about {at} from {since}", (code, number), (0, len(pages)))
+    compare_moment(own, state, pages, at, since)
+    if pages:
+        expect("too little room", library.look(past, at, since, budget, len(pages) - 1)[::3], (2, len(pages)))
+    expect("just enough room", library.look(past, at, since, budget, len(pages))[0], 0)
+    return spent
+
+
+def look_near(library: Library, past: Past, own: Run, at: int, since: int, spacing: int) -> None:
+    """The keyframe at or before a count, and no other."""
+    extent = library.extent(past)[1]
+    code, state, pages, _ = library.look(past, at, since, None)
+    far = since != NO_COUNT and since > extent.reached + spacing and not State.from_buffer_copy(own.at(extent.reached)[0]).stop
+    expect(f"near {at} from {since}", code, 12 if far else 0)
+    if not far:
+        keyframe = spacing * min(at // spacing, extent.keyframes - 1)
+        expect("the keyframe", state.count, keyframe)
+        compare_moment(own, state, pages, keyframe, since)
+
+
+def keep_pasts(library: Library) -> None:
+    """What a past answers is of the one run, in any order, from any count and with any budget."""
+    past, chance, questions, spent = Past(), random.Random(5), 0, 0
+    for text in recordings():
+        own = Run(library, text)
+        counts = sorted(
+            {0, min(1, own.end), own.end, own.end // SPACING * SPACING, *(chance.randint(0, own.end) for _ in range(9))}
+        )
+        for spacing in (SPACING, 0):
+            expect("a past that is opened", library.open_past(past, text, spacing), 0)
+            code, extent = library.extent(past)
+            found = (code, extent.first, extent.end, extent.reached, extent.keyframes, extent.inputs)
+            expect("its extent", found, (0, 0, own.end, 0, 1, len(own.inputs)))
+            for _ in range(16):
+                at, since = chance.choice(counts), chance.choice([NO_COUNT, *counts])
+                spent += ask(library, past, own, at, since, chance.choice([1, SPACING, 1_000_000, 1 << 40]))
+                look_near(library, past, own, chance.choice(counts), chance.choice([NO_COUNT, *counts]), spacing or 1 << 20)
+                questions += 2
+            expect("a count after the end", library.look(past, own.end + 1)[0], 14)
+            expect("from a count after the end", library.look(past, 0, own.end + 1)[0], 14)
+            expect("near a count after the end", library.look(past, own.end + 1, budget=None)[0], 14)
+            expect("a budget of 0", library.look(past, own.end, budget=0)[0], 1)
+    if not spent:
+        fail("no budget was spent")
+    library.close_past(past)
+    print(f"past: {questions} questions about six recordings are answered as by galluspa_advance; {spent} times a budget was spent")
+
+
+def begin_pasts(library: Library) -> None:
+    """The past of a machine at a count has this count alone."""
+    own, past = Run(library, FACE), Past()
+    state, words = State.from_buffer_copy(own.at(1_000_000)[0]), (ctypes.c_uint32 * WORDS).from_buffer_copy(own.at(1_000_000)[1])
+    for spacing in (0, SPACING, (1 << 64) - 1):
+        expect("a past that is begun", library.begin_past(past, state, words, spacing), 0)
+        code, it = library.extent(past)
+        expect(
+            "its extent", (code, it.first, it.end, it.reached, it.keyframes, it.inputs), (0, 1_000_000, 1_000_000, 1_000_000, 1, 0)
+        )
+        for since in (NO_COUNT, 1_000_000):
+            for budget in (1, None):
+                code, now, pages, _ = library.look(past, 1_000_000, since, budget)
+                expect("its first count", code, 0)
+                compare_moment(own, now, pages, 1_000_000, since)
+        for budget in (1, None):
+            expect("the count before", library.look(past, 999_999, budget=budget)[0], 1)
+            expect("from the count before", library.look(past, 1_000_000, 999_999, budget)[0], 1)
+            expect("the count after", library.look(past, 1_000_001, budget=budget)[0], 14)
+            expect("the count after, from the count before", library.look(past, 1_000_001, 999_999, budget)[0], 1)
+    library.close_past(past)
+    print("past: a machine's has its count alone")
+
+
+def refuse_pasts(library: Library) -> None:
+    """Each refusal, and that a handle is zeros after it and after closing."""
+    past, text = Past(), FACE
+    _, state, words = library.claim(text, 0)
+
+    def opened() -> None:
+        expect("a past that is open", library.open_past(past, text), 0)
+
+    def is_closed() -> None:
+        expect("the extent of none", library.extent(past)[0], 13)
+        expect("a count of none", [library.look(past, 0, budget=it)[0] for it in (1, 0, None)], [13] * 3)
+
+    is_closed()
+    library.close_past(past)
+    opened()
+    opened()
+    library.close_past(past)
+    library.close_past(past)
+    is_closed()
+    for spacing in (1, SPACING - 1):
+        opened()
+        expect(f"a spacing of {spacing}", library.open_past(past, text, spacing), 1)
+        is_closed()
+        opened()
+        expect(f"a beginning with a spacing of {spacing}", library.begin_past(past, state, words, spacing), 1)
+        is_closed()
+    for wrong in (b"", text[:-1], text + b"\0"):
+        opened()
+        expect("no recording", library.open_past(past, wrong), 4)
+        is_closed()
+    half: Words = (ctypes.c_uint32 * (WORDS // 2))()
+    bad_machines: list[tuple[dict[str, int], Words]] = [
+        ({}, half), (dict(pc=4194304), words), (dict(key_count=17), words), (dict(stop=5), words),
+    ]  # fmt: skip
+    for fields, memory in bad_machines:
+        opened()
+        bad = State.from_buffer_copy(bytes(state))
+        for name, value in fields.items():
+            setattr(bad, name, value)
+        expect(f"a beginning with {fields}", library.begin_past(past, bad, memory), 1)
+        is_closed()
+    other = Past()
+    hello = run(PROGRAM, "record", given=(EXAMPLES / "hello.json").read_bytes())[0]
+    opened()
+    expect("a second past", library.open_past(other, hello), 0)
+    own = Run(library, hello)
+    ask(library, other, own, own.end, NO_COUNT, 1 << 40)
+    library.close_past(past)
+    ask(library, other, own, 0, own.end, 1 << 40)
+    library.close_past(other)
+    print("past: each refusal leaves a handle of zeros, and two pasts live beside one another")
+
+
+def refuse_memory(folder: Path, flags: Sequence[str]) -> None:
+    """Each request for memory of the calls with a past refused in turn: its run stays, and nothing is left of it."""
+    program = f"{folder}/past"
+    wrapped = ["-Wl,--wrap=malloc,--wrap=realloc,--wrap=free"]
+    expect("past.c", run("cc", *WARNINGS, str(Path(__file__).with_name("past.c")), *flags, *wrapped, "-o", program), (b"", 0))
+    output, status = run(program, str(EXAMPLES / "face.orsr"))
+    if status:
+        fail(f"past: {output.decode()}")
+    print(f"past: refused in turn, each request of {output.decode()}", end="")
