@@ -16,10 +16,10 @@ use Rattle.oberon_session.specs.Laws.{IsTableOf}
 use Rattle.oberon_session.specs.Stored.{IsGrown, Stored, changed_page_view, changed_pages, store, store_pages, stored_view}
 use Rattle.oberon_session.specs.declared.storing.StoredPages.{StoredPages}
 use Rattle.oberon_past.proofs.Keyframes.{grown-kept, grown-longer, longer-on, many-pushed, pushed-kept, pushed-longer, state-from, state-grown}
-use Rattle.oberon_past.specs.Past.{IsLonger, PastParts, past_of}
+use Rattle.oberon_past.specs.Past.{IsLonger, PastParts, past_of, reached as reached_by}
 use Rattle.oberon_past.specs.Run.{state_at}
 use Rattle.oberon_past.specs.declared.running.Reached.{Reached}
-use Rattle.oberon_past.specs.inner.Kept.{IsKept, IsReached, state_of}
+use Rattle.oberon_past.specs.inner.Kept.{IsKept, IsNextKeyframe, IsReached, state_of}
 
 pub stored-is : (base words : List ℕ) (before after : Stored) (pages : List (ℕ × List ℕ)) → after ≡ store_pages before pages
     → pages ≡ changed_pages base words → after ≡ store base words before
@@ -67,6 +67,45 @@ module _ (pool : List (List ℕ)) (inputs : List Event) (keyframes : List Checkp
     own-state =
         ap (λ (n : ℕ). state_at past.run n) (sym count-is ∙ ap (λ (c : CheckpointParts). c.count) (sym there))
         ∙ sym (is.truth k lt-parts) ∙ ap (λ (c : CheckpointParts). state_of pool c) there
+
+    -- it is the last one: where a run from it ended, in terms of the past
+    module _ (last : k + 1 ≡ length keyframes) where
+      pub last-low : keyframe.count ≤ end
+      last-low =
+          let same : length parts.checkpoints - 1 ≡ k = omega (arith, many-parts, last) in
+          let product = ap (λ (n : ℕ). n * spacing) same in
+          omega (arith, count-is, is.ends, product)
+
+    module _ (last : k + 1 ≡ length keyframes) (to : ℕ) (to-is : to ≡ keyframe.count + spacing) where
+      last-is : reached_by past ≡ past.run.start + k * spacing
+      last-is =
+          let same : length parts.checkpoints - 1 ≡ k = omega (arith, many-parts, last) in
+          ap (λ (n : ℕ). past.run.start + n * spacing) same
+
+      pub last-words : (state_at past.run (reached_by past)).words ≡ (state_of pool (checkpoint_parts keyframe)).words
+      last-words = ap (λ (n : ℕ). (state_at past.run n).words) last-is ∙ ap (λ (s : State). s.words) own-state
+
+      pub next-count : reached_by past + spacing ≡ to
+      next-count = omega (arith, last-is, count-is, to-is)
+
+      pub next-state-is : state_at past.run (reached_by past + spacing) ≡ run_of inputs keyframe.count (to - keyframe.count) (state_of pool (checkpoint_parts keyframe))
+      next-state-is = ap (λ (n : ℕ). state_at past.run n) next-count ∙ sym (run-is to (omega (arith, to-is)))
+
+      pub from-last : (next : Reached) → IsNextKeyframe past next
+          → IsReached (state_of pool (checkpoint_parts keyframe)).words
+          (run_of inputs keyframe.count (to - keyframe.count) (state_of pool (checkpoint_parts keyframe))) next
+      from-last next is-next =
+          subst (λ (s : State). IsReached (state_of pool (checkpoint_parts keyframe)).words s next) next-state-is
+          (subst (λ (w : List ℕ). IsReached w (state_at past.run (reached_by past + spacing)) next) last-words is-next.is_reached)
+
+      pub is-next : (next : Reached) → to ≤ end → (base : List ℕ) (state : State) → base ≡ (state_of pool (checkpoint_parts keyframe)).words
+          → state ≡ state_at past.run to → IsReached base state next → IsNextKeyframe past next
+      is-next next inside base state base-is state-is has = record {
+        inside = omega (arith, next-count);
+        is_reached =
+            subst (λ (s : State). IsReached (state_at past.run (reached_by past)).words s next) (state-is ∙ ap (λ (n : ℕ). state_at past.run n) (sym next-count))
+            (subst (λ (w : List ℕ). IsReached w state next) (base-is ∙ sym last-words) has);
+      }
 
     -- the next keyframe is made where a run on from it ended
     module _ (last : k + 1 ≡ length keyframes) (to : ℕ) (to-is : to ≡ keyframe.count + spacing) (room : to ≤ end) (reached : Reached)

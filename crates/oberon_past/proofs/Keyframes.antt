@@ -32,6 +32,19 @@ module _ (r : RecordingParts) (spacing end : ℕ) (is : IsKept r spacing end) wh
       run-on r.inputs (count_at r 0) (count_at r k) to (state_of r.pool (checkpoint_at r 0)) (start-low k lt) on
       (state_of r.pool (checkpoint_at r k)) (is.truth k lt)
 
+  -- ---- the end is later
+  pub later-kept : (later : ℕ) → end ≤ later → IsKept r spacing later
+  later-kept later on = record {
+    pool = is.pool;
+    some = is.some;
+    spaced = is.spaced;
+    counts = is.counts;
+    ends = omega (arith, is.ends, on);
+    cpus = is.cpus;
+    tables = is.tables;
+    truth = is.truth;
+  }
+
   -- ---- the pool has grown
   module _ (pool : List (List ℕ)) (grown : IsGrown r.pool pool) where
     abbrev pub over : RecordingParts

@@ -63,8 +63,8 @@ IsInputFault p inputs _ = ⊥
 
 -- ---- a run that goes on
 
--- why a run from the old end ended at the new one: it came to the count that was asked for; the budget is spent, and there is progress;
--- or the next instruction sends a byte for which there is no room
+-- why a run from the old end ended at the new one: it came to the count that was asked for; it is to be gone on with, and there is
+-- progress; or the next instruction sends a byte for which there is no room
 abbrev pub IsEnding : PastParts → PastParts → ℕ → ℕ → Ending → Type 0
 IsEnding old new to room ending.Done = new.end ≡ to
 IsEnding old new to room ending.More = (new.end < to) × ((old.end < new.end) ⊎ (old.keyframes < new.keyframes))

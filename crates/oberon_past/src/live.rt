@@ -1,17 +1,17 @@
 //! A past that changes: a branch of it, more inputs, a run that goes on, and a cut. So it is the past of a live machine.
-ghost use Rattle.std.specs.Prelude.{◌≡◌, ◌≢◌, ◌≤◌, ◌↔◌, IfErr, IfNone, IfOk, IfSome, IsTrue, OnErr, OnOk, length};
+ghost use Rattle.std.specs.Prelude.{◌≡◌, ◌≢◌, ◌<◌, ◌≤◌, ◌↔◌, IfErr, IfNone, IfOk, IfSome, IsTrue, OnErr, OnOk, length};
 ghost use Rattle.risc_model.specs.InputOrder.{count_before};
 ghost use Rattle.oberon_past.specs.declared.progress.Ending.{Ending};
 ghost use Rattle.oberon_past.specs.Live.{AreNext, HasInputs, HasRun, IsBranchFault, IsInputFault, IsOutside, IsRunFault, IsUpTo};
 ghost use Rattle.oberon_past.specs.Past.{IsLonger};
 ghost use Rattle.oberon_past.specs.Run.{state_at};
-ghost use Rattle.oberon_past.specs.inner.Kept.{IsStretch};
+ghost use Rattle.oberon_past.specs.inner.Kept.{IsNextKeyframe, IsStretch};
 
 use crate::copying::{inputs_copy, keyframes_copy, pool_copy};
 use crate::fault::PastFault;
 use crate::past::Past;
 use crate::progress::{Ending, Progress};
-use crate::running::{Stretch, run_with_room};
+use crate::running::{Reached, Stretch, closed, machine_at, run_with_room};
 use crate::steps::Steps;
 use oberon_session::StoredPages;
 use risc_model::{Event, MAX_COUNT, first_from};
@@ -80,9 +80,12 @@ impl Past {
 
     /// Runs on to a count, which becomes the end of the past. Returns the bytes that the machine sends on the way.
     ///
-    /// It adds the keyframes up to the old end that are not there yet, within the budget, and then does at most `budget` instructions.
-    /// It ends before an instruction that sends a byte when there are `room` bytes already. If memory runs out, keyframes may have been
-    /// added, and the end is the old one.
+    /// It does at most `budget` instructions, and none after the count of the next keyframe, which it adds; then the answer is `More`. It
+    /// ends before an instruction that sends a byte when there are `room` bytes already. Before that it does the instructions from the
+    /// last keyframe to the old end once more, and adds the keyframes up to there that are missing, within the budget.
+    ///
+    /// If memory runs out, the end is the old one, and keyframes may have been added; but for the keyframe at the new end there need be
+    /// none: it is added later.
     pub fn run(
         &mut self,
         alloc: Global,
@@ -109,22 +112,59 @@ impl Past {
                 ending: Ending::More,
             });
         }
-        let within = to.min(self.end.saturating_add(budget.count));
-        let ran = self.run_from_end(alloc, within, room)?;
+        let within = self.within(to, budget);
+        let (ran, next) = self.run_from_end(alloc, within, room)?;
         self.end = ran.end;
+        self.keep(alloc, next);
         Ok(Progress {
             sent: ran.sent,
             ending: ending(ran.end, within, to),
         })
     }
 
-    /// Runs on from the end of the past.
-    fn run_from_end(&self, alloc: Global, to: u64, room: usize) -> Result<Stretch, AllocError>
-        requires { self.now.end ≤ to }
-        ensures { IfOk result (IsStretch self.now.run.inputs self.now.end to room (state_at self.now.run self.now.end)) }
+    /// Returns the count up to which to run on now: within the budget, and no further than to the next keyframe, if that is after the end.
+    fn within(&self, to: u64, budget: Steps) -> u64
+        requires { self.now.end < to }
+        ensures further { self.now.end < result }
+        ensures inside { result ≤ to }
     {
-        let mut machine = self.machine(alloc, self.end)?;
-        run_with_room(alloc, &mut machine, &self.inputs, self.end, to, room)
+        let to = to.min(self.end.saturating_add(budget.count));
+        let last = &self.keyframes[self.keyframes.len() - 1];
+        let next = last.count.saturating_add(self.spacing.count);
+        if last.cpu.stop == 0 && next > self.end {
+            return to.min(next);
+        }
+        to
+    }
+
+    /// Runs on from the end of the past. Returns the next keyframe, too, if the run comes to its count and there is memory for it.
+    fn run_from_end(
+        &self,
+        alloc: Global,
+        to: u64,
+        room: usize,
+    ) -> Result<(Stretch, Option<Reached>), AllocError>
+        requires { self.now.end ≤ to }
+        ensures stretch { IfOk result (λ ran. IsStretch self.now.run.inputs self.now.end to room (state_at self.now.run self.now.end) ran.0) }
+        ensures next { IfOk result (λ ran. IfSome ran.1 (IsNextKeyframe (record self.now { end = ran.0.end }))) }
+    {
+        let last = &self.keyframes[self.keyframes.len() - 1];
+        let mut machine = machine_at(alloc, &self.stored.pool, &self.inputs, last, self.end)?;
+        let ran = run_with_room(alloc, &mut machine, &self.inputs, self.end, to, room)?;
+        if ran.end < to || to - last.count != self.spacing.count {
+            return Ok((ran, None));
+        }
+        Ok((ran, closed(machine).ok()))
+    }
+
+    /// Adds the next keyframe, if there is one. If there is no memory for it, it is added later.
+    fn keep(&mut self, alloc: Global, next: Option<Reached>)
+        requires { IfSome next (IsNextKeyframe self.old) }
+        ensures { IsLonger self.old self.new }
+    {
+        if let Some(next) = next {
+            let _added = self.add(alloc, next);
+        }
     }
 
     /// Returns why a count is refused, if the past does not have it.

@@ -13,11 +13,12 @@ ghost use Rattle.oberon_session.specs.Extended.{blank_words};
 ghost use Rattle.oberon_past.specs.declared.answer.Answer.{Answer};
 ghost use Rattle.oberon_past.specs.Past.{IsAnswer, IsExtent, IsFar, IsInside, IsLonger, IsMoment, IsNear, IsNearAnswer, IsOf, IsOpened, IsRefused, IsSpaced, LeavesKeyframes, first_asked, last_asked, nearest, nearest_count, reached};
 ghost use Rattle.oberon_past.specs.Run.{state_at, words_at};
+ghost use Rattle.oberon_past.specs.inner.Kept.{IsNextKeyframe};
 
 use crate::answer::Answer;
 use crate::extent::Extent;
 use crate::moment::{Moment, changed_pages};
-use crate::running::{machine_at, reach};
+use crate::running::{Reached, machine_at, reach};
 use crate::steps::Steps;
 use oberon_format::{Checkpoint, Recording};
 use oberon_session::{StoredPages, store_pages, store_words};
@@ -220,19 +221,31 @@ impl Past {
         ensures one { OnOk result (self.new.keyframes ≡ self.old.keyframes + 1) }
         ensures none { OnErr result (self.new.keyframes ≡ self.old.keyframes) }
     {
+        let last = &self.keyframes[self.keyframes.len() - 1];
+        let to = last.count + self.spacing.count;
+        let next = reach(alloc, &self.stored.pool, &self.inputs, last, to)?;
+        self.add(alloc, next)
+    }
+
+    /// Adds the next keyframe, where a run from the last one ended. If memory runs out, none is added, as for `extend`.
+    pub(crate) fn add(&mut self, alloc: Global, next: Reached) -> Result<(), AllocError>
+        requires { IsNextKeyframe self.old next }
+        ensures longer { IsLonger self.old self.new }
+        ensures one { OnOk result (self.new.keyframes ≡ self.old.keyframes + 1) }
+        ensures none { OnErr result (self.new.keyframes ≡ self.old.keyframes) }
+    {
         if self.stored.pool.len() > ROOM {
             return Err(AllocError);
         }
         let last = &self.keyframes[self.keyframes.len() - 1];
-        let to = last.count + self.spacing.count;
-        let next = reach(alloc, &self.stored.pool, &self.inputs, last, to)?;
+        let count = last.count + self.spacing.count;
         self.stored.table = last.table.copy();
         let stored = store_pages(&mut self.stored, &next.changed);
         // The contract of `len` states that each page of the pool has 256 words.
         let _pages = self.stored.pool.len();
         stored?;
         self.keyframes.push(Checkpoint {
-            count: to,
+            count,
             cpu: next.cpu,
             devices: next.devices,
             sent: Vec::new(alloc),

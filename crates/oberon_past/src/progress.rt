@@ -5,7 +5,7 @@
 pub enum Ending {
     /// It came to the count that was asked for.
     Done,
-    /// The budget is spent. Ask again to go on.
+    /// The budget is spent, or it came to the count of a keyframe. Ask again to go on.
     More,
     /// The next instruction sends a byte for which there is no room.
     NoRoom,

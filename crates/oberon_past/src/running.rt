@@ -66,7 +66,13 @@ pub(crate) fn reach(
     ensures { IfOk result (IsReached (state_of pool.now (checkpoint_parts keyframe.now)).words
         (run_of inputs.now keyframe.now.count (to - keyframe.now.count) (state_of pool.now (checkpoint_parts keyframe.now)))) }
 {
-    let machine = machine_at(alloc, pool, inputs, keyframe, to)?;
+    closed(machine_at(alloc, pool, inputs, keyframe, to)?)
+}
+
+/// Closes a machine, and returns where its run ended.
+pub(crate) fn closed(machine: Machine<'_>) -> Result<Reached, AllocError>
+    ensures { IfOk result (IsReached machine.entry.base machine.entry.state) }
+{
     // The contract of `owned` states that a memory has all its words.
     let _owned = machine.memory().owned(0);
     let (cpu, devices, delta) = machine.close()?;
@@ -97,7 +103,9 @@ pub(crate) fn run_with_room(
     room: usize,
 ) -> Result<Stretch, AllocError>
     requires { from ≤ to }
-    ensures { IfOk result (IsStretch inputs.now from to room machine.old.state) }
+    ensures stretch { IfOk result (IsStretch inputs.now from to room machine.old.state) }
+    ensures state { IfOk result (λ stretch. stretch.end ≡ to → machine.new.state ≡ run_of inputs.now from (to - from) machine.old.state) }
+    ensures base { machine.new.base ≡ machine.old.base }
 {
     let mut output = Output {
         bytes: Vec::new(alloc),

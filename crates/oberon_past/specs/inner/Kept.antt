@@ -10,6 +10,8 @@ use Rattle.oberon_format.specs.Defined.{claim_of}
 use Rattle.oberon_format.specs.Recording.{RecordingParts, checkpoint_at, count_at}
 use Rattle.oberon_session.specs.Laws.{IsTableOf}
 use Rattle.oberon_session.specs.Stored.{changed_page_view, changed_pages}
+use Rattle.oberon_past.specs.Past.{PastParts, reached}
+use Rattle.oberon_past.specs.Run.{state_at}
 use Rattle.oberon_past.specs.declared.running.Reached.{Reached}
 use Rattle.oberon_past.specs.declared.running.Stretch.{Stretch}
 
@@ -34,10 +36,10 @@ pub record IsKept (r : RecordingParts) (spacing end : ℕ) : Type 0 where
   pub truth : (k : ℕ) → k < length r.checkpoints → IsTrueKeyframe r k
 
 -- a machine that began with these words ended in this state
-pub record IsReached (begun : List ℕ) (state : State) (reached : Reached) : Type 0 where
-  pub cpu : cpu_state reached.cpu ≡ state.cpu
-  pub devices : reached.devices ≡ state.devices
-  pub changed : map changed_page_view reached.changed.items ≡ changed_pages begun state.words
+pub record IsReached (begun : List ℕ) (state : State) (r : Reached) : Type 0 where
+  pub cpu : cpu_state r.cpu ≡ state.cpu
+  pub devices : r.devices ≡ state.devices
+  pub changed : map changed_page_view r.changed.items ≡ changed_pages begun state.words
   pub range : IsCpuState state.cpu
   pub whole : length state.words ≡ MEMORY_WORDS
 
@@ -47,3 +49,8 @@ pub record IsStretch (inputs : List Event) (from to room : ℕ) (state : State) 
   pub sent : stretch.sent.items ≡ sent_of inputs from (stretch.end - from) state
   pub fits : length stretch.sent.items ≤ room
   pub full : stretch.end < to → room < length (sent_of inputs from (stretch.end + 1 - from) state)
+
+-- the next keyframe of a past, a spacing after the last one, is inside the past, and is where a run from the last one ended
+pub record IsNextKeyframe (p : PastParts) (next : Reached) : Type 0 where
+  pub inside : reached p + p.spacing ≤ p.end
+  pub is_reached : IsReached (state_at p.run (reached p)).words (state_at p.run (reached p + p.spacing)) next

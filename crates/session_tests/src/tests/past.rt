@@ -18,7 +18,7 @@ const PROGRAM: [u32; 5] = [
 /// The first count of the pasts.
 const FIRST: u64 = 100;
 
-/// Returns the past that begins with the program at the count `FIRST`, with a keyframe each four instructions.
+/// Returns the past that begins with the program at the count `FIRST`, with a keyframe each eight instructions.
 fn begun(alloc: Global) -> Option<Past> {
     let mut words = vec![in alloc; 0; 262_144].ok()?;
     for (place, word) in PROGRAM.iter().enumerate() {
@@ -35,7 +35,7 @@ fn begun(alloc: Global) -> Option<Past> {
     if cpu.pc >= COUNTER_END || cpu.stop > 4 || words.len() != 262_144 {
         return None;
     }
-    Past::begin(alloc, FIRST, cpu, devices, &words, Steps::new(4)?).ok()
+    Past::begin(alloc, FIRST, cpu, devices, &words, Steps::new(8)?).ok()
 }
 
 /// Runs a past on. Reports whether it ends at this count for this reason, and sends these bytes.
@@ -92,6 +92,11 @@ fn fault_of_a_live_past(alloc: Global) -> Option<&'static str> {
     if moves(&mut past, 106, 7) != Ok(()) || seen(alloc, &mut past, 106) != Some((0x42, 0)) {
         return Some("the input");
     }
+    if !runs(alloc, &mut past, 108, 1_000, 9, (108, Ending::Done, &[]))
+        || past.extent().reached != 108
+    {
+        return Some("the run to a keyframe");
+    }
     if !runs(
         alloc,
         &mut past,
@@ -100,14 +105,14 @@ fn fault_of_a_live_past(alloc: Global) -> Option<&'static str> {
         9,
         (109, Ending::Done, &[0x43]),
     ) {
-        return Some("the second run");
+        return Some("the run from a keyframe");
     }
     if seen(alloc, &mut past, 107) != Some((0x43, 7))
         || seen(alloc, &mut past, 106) != Some((0x42, 0))
     {
         return Some("the state after the input, or before it");
     }
-    if past.cut(106) != Ok(()) || past.extent().inputs != 0 || past.extent().end != 106 {
+    if past.cut(106) != Ok(()) || past.extent().inputs != 0 || past.extent().reached != FIRST {
         return Some("the cut");
     }
     if !runs(alloc, &mut past, 107, 1_000, 9, (107, Ending::Done, &[])) {
@@ -144,15 +149,11 @@ fn fault_of_early_ends(alloc: Global) -> Option<&'static str> {
     if !runs(alloc, &mut past, 120, 1_000, 0, (105, Ending::NoRoom, &[])) {
         return Some("no room at once");
     }
-    if !runs(
-        alloc,
-        &mut past,
-        120,
-        4,
-        9,
-        (109, Ending::More, &[0x42, 0x43]),
-    ) {
-        return Some("the budget of a run");
+    if !runs(alloc, &mut past, 120, 2, 9, (107, Ending::More, &[0x42])) {
+        return Some("the budget");
+    }
+    if !runs(alloc, &mut past, 120, 1_000, 9, (108, Ending::More, &[])) {
+        return Some("a keyframe");
     }
     if !runs(
         alloc,
@@ -160,14 +161,21 @@ fn fault_of_early_ends(alloc: Global) -> Option<&'static str> {
         120,
         1_000,
         9,
-        (120, Ending::Done, &[0x44, 0x45, 0x46]),
+        (116, Ending::More, &[0x43, 0x44, 0x45]),
+    ) {
+        return Some("the next keyframe");
+    }
+    if !runs(
+        alloc,
+        &mut past,
+        120,
+        1_000,
+        9,
+        (120, Ending::Done, &[0x46]),
     ) {
         return Some("the rest");
     }
-    if !runs(alloc, &mut past, 130, 4, 9, (120, Ending::More, &[])) {
-        return Some("the budget of keyframes");
-    }
-    if !runs(alloc, &mut past, 120, 4, 9, (120, Ending::Done, &[])) {
+    if !runs(alloc, &mut past, 120, 1, 9, (120, Ending::Done, &[])) {
         return Some("no step");
     }
     None
@@ -202,9 +210,19 @@ fn fault_of_a_branch(alloc: Global) -> Option<&'static str> {
         112,
         1_000,
         9,
-        (112, Ending::Done, &[0x42, 0x43, 0x44]),
+        (108, Ending::More, &[0x42]),
     ) {
         return Some("the second run");
+    }
+    if !runs(
+        alloc,
+        &mut past,
+        112,
+        1_000,
+        9,
+        (112, Ending::Done, &[0x43, 0x44]),
+    ) {
+        return Some("the third run");
     }
     let Ok(mut branch) = past.branch(alloc, 106) else {
         return Some("the branch");

@@ -7,8 +7,8 @@ use Rattle.risc_model.specs.MachineState.{State}
 use Rattle.risc_model.specs.Replay.{begun_at, sent_of}
 use Rattle.oberon_past.proofs.running.run_with_room.Goals as goal
 
-pub returns-in-Ok-Some : goal.returns-in-Ok-Some
-returns-in-Ok-Some c =
+pub returns-in-Ok-Some-clause-stretch : goal.returns-in-Ok-Some-clause-stretch
+returns-in-Ok-Some-clause-stretch c =
     let es = c.args.inputs.now in
     let from : ℕ = c.args.from in
     let at : ℕ = c.in-Err.fault.at in

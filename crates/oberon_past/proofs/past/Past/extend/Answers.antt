@@ -1,105 +1,30 @@
-use Rattle.std.proofs.Common.{◌≡◌, ◌<◌, ◌≤◌, ◌+◌, ◌-◌, ◌*◌, ◌∙◌, ℕ, List, ap, arith, length, map, refl, subst, sym}
-use Rattle.risc_pages.specs.declared.table.Table.{Table}
-use Rattle.risc_model.specs.MachineState.{cpu_state}
-use Rattle.oberon_format.specs.Recording.{parts_of}
-use Rattle.oberon_format.specs.declared.checkpoint.Checkpoint.{Checkpoint}
-use Rattle.oberon_session.proofs.PagesStored.{few-changes, low-changes}
-use Rattle.oberon_session.specs.Stored.{changed_page_view, store_pages}
-use Rattle.oberon_past.proofs.Keyframes.{grown-kept, grown-longer}
-use Rattle.oberon_past.proofs.Extending.{count-is, extended-kept, extended-longer, many-parts}
-use Rattle.oberon_past.specs.Past.{IsLonger, PastParts, past_of, reached}
-use Rattle.oberon_past.specs.inner.Kept.{IsKept}
+use Rattle.std.proofs.Common.{◌≡◌, ◌<◌, ◌≤◌, ◌+◌, ◌-◌, ℕ, arith, length, refl, subst, sym}
+use Rattle.risc_model.specs.Replay.{run_of}
+use Rattle.oberon_format.specs.CheckpointParts.{checkpoint_parts}
+use Rattle.oberon_past.proofs.Extending.{is-next, many-parts, next-count, run-is}
+use Rattle.oberon_past.specs.Past.{PastParts, reached}
+use Rattle.oberon_past.specs.inner.Kept.{IsNextKeyframe, state_of}
 use Rattle.oberon_past.proofs.past.Past.extend.Goals as goal
 
-pub store_pages-stored-requires-clause-few : goal.store_pages-stored-requires-clause-few
-store_pages-stored-requires-clause-few c = rw c.deref.ensures.value (few-changes _ _ c.in_ok-next.next.changed.items c.in_ok-next.ensures.changed)
-
-pub store_pages-stored-requires-clause-slots : goal.store_pages-stored-requires-clause-slots
-store_pages-stored-requires-clause-slots c = rw c.deref.ensures.value (low-changes _ _ c.in_ok-next.next.changed.items c.in_ok-next.ensures.changed)
-
-pub invariant_of-self : goal.invariant_of-self
-invariant_of-self c =
-    let past = c.self.inside in
-    grown-kept (parts_of past.stored.pool past.inputs past.keyframes.items) past.spacing.count past.end c.self.invariant
-    c.store_pages-stored.new.stored.pool c.store_pages-stored.ensures.kept c.len-pages.ensures.pages
-
-pub returns-in_err-stored-clause-longer : goal.returns-in_err-stored-clause-longer
-returns-in_err-stored-clause-longer c =
-    let past = c.self.inside in
-    subst (λ (p : PastParts). IsLonger p (past_of (parts_of c.store_pages-stored.new.stored.pool past.inputs past.keyframes.items) past.spacing.count past.end))
-    c.self.view_is
-    (grown-longer (parts_of past.stored.pool past.inputs past.keyframes.items) past.spacing.count past.end c.self.invariant
-    c.store_pages-stored.new.stored.pool c.store_pages-stored.ensures.kept)
-
-pub invariant_of-self-in_err-push : goal.invariant_of-self-in_err-push
-invariant_of-self-in_err-push c =
-    let past = c.self.inside in
-    let items : c.push.new.self.items ≡ past.keyframes.items = c.in_err-push.ensures.items in
-    subst (λ (l : List Checkpoint). IsKept (parts_of c.store_pages-stored.new.stored.pool past.inputs l) past.spacing.count past.end) (sym items)
-    (grown-kept (parts_of past.stored.pool past.inputs past.keyframes.items) past.spacing.count past.end c.self.invariant
-    c.store_pages-stored.new.stored.pool c.store_pages-stored.ensures.kept c.len-pages.ensures.pages)
-
-pub returns-in_err-push-clause-longer : goal.returns-in_err-push-clause-longer
-returns-in_err-push-clause-longer c =
-    let past = c.self.inside in
-    let items : c.push.new.self.items ≡ past.keyframes.items = c.in_err-push.ensures.items in
-    subst (λ (l : List Checkpoint). IsLonger c.args.self.now (past_of (parts_of c.store_pages-stored.new.stored.pool past.inputs l) past.spacing.count past.end)) (sym items)
-    (subst (λ (p : PastParts). IsLonger p (past_of (parts_of c.store_pages-stored.new.stored.pool past.inputs past.keyframes.items) past.spacing.count past.end))
-    c.self.view_is
-    (grown-longer (parts_of past.stored.pool past.inputs past.keyframes.items) past.spacing.count past.end c.self.invariant
-    c.store_pages-stored.new.stored.pool c.store_pages-stored.ensures.kept))
-
-pub invariant_of-self-2 : goal.invariant_of-self-2
-invariant_of-self-2 c =
+pub add-requires : goal.add-requires
+add-requires c =
     let past = c.self.inside in
     let pool = past.stored.pool in
     let keyframes = past.keyframes.items in
     let spacing : ℕ = past.spacing.count in
     let end : ℕ = past.end in
     let last = c.index-last.result.now in
-    let next = c.in_ok-next.next in
-    let k : ℕ = c.len-2.result - 1 in
+    let k : ℕ = c.len.result - 1 in
+    let to : ℕ = last.count + spacing in
+    let begun = state_of pool (checkpoint_parts last) in
     let many = many-parts pool past.inputs keyframes spacing end c.self.invariant in
     let some = c.self.invariant.some in
-    let inside : k < length keyframes = omega (arith, many, some, c.len-2.ensures) in
-    let whole : k + 1 ≡ length keyframes = omega (arith, many, some, c.len-2.ensures) in
-    let is = count-is pool past.inputs keyframes spacing end c.self.invariant last k inside c.index-last.ensures in
+    let inside : k < length keyframes = omega (arith, many, some, c.len.ensures) in
+    let whole : k + 1 ≡ length keyframes = omega (arith, many, some, c.len.ensures) in
     let asked = subst (λ (p : PastParts). reached p + p.spacing ≤ p.end) (sym c.self.view_is) c.requires in
-    let same : k ≡ length (parts_of pool past.inputs keyframes).checkpoints - 1 = omega (arith, many, c.len-2.ensures) in
-    let product = ap (λ (n : ℕ). n * spacing) same in
-    let room : last.count + spacing ≤ end = omega (arith, is, asked, product) in
-    let stored-so = (rw c.deref.ensures.value at c.in_ok-stored.ensures.stored)
-    ∙ ap (λ (t : Table). store_pages (record { pool = pool; table = t.numbers }) (map changed_page_view next.changed.items)) c.copy-self-inside.ensures in
-    let made : Checkpoint = record { count = last.count + spacing; cpu = next.cpu; devices = next.devices; sent = c.new.result; table = c.copy.result } in
-    extended-kept pool past.inputs keyframes spacing end c.self.invariant last k inside c.index-last.ensures whole (last.count + spacing) refl room
-    next c.in_ok-next.ensures c.store_pages-stored.new.stored stored-so c.len-pages.ensures.pages made c.new.result.items
-    (ap (λ (t : Table). record { count = last.count + spacing; cpu = cpu_state next.cpu; devices = next.devices; sent = c.new.result.items; table = t.numbers }) c.copy.ensures)
-    c.push.new.self.items c.in_ok-push.ensures.items
-
-pub returns-clause-longer : goal.returns-clause-longer
-returns-clause-longer c =
-    let past = c.self.inside in
-    let pool = past.stored.pool in
-    let keyframes = past.keyframes.items in
-    let spacing : ℕ = past.spacing.count in
-    let end : ℕ = past.end in
-    let last = c.index-last.result.now in
-    let next = c.in_ok-next.next in
-    let k : ℕ = c.len-2.result - 1 in
-    let many = many-parts pool past.inputs keyframes spacing end c.self.invariant in
-    let some = c.self.invariant.some in
-    let inside : k < length keyframes = omega (arith, many, some, c.len-2.ensures) in
-    let whole : k + 1 ≡ length keyframes = omega (arith, many, some, c.len-2.ensures) in
-    let is = count-is pool past.inputs keyframes spacing end c.self.invariant last k inside c.index-last.ensures in
-    let asked = subst (λ (p : PastParts). reached p + p.spacing ≤ p.end) (sym c.self.view_is) c.requires in
-    let same : k ≡ length (parts_of pool past.inputs keyframes).checkpoints - 1 = omega (arith, many, c.len-2.ensures) in
-    let product = ap (λ (n : ℕ). n * spacing) same in
-    let room : last.count + spacing ≤ end = omega (arith, is, asked, product) in
-    let stored-so = (rw c.deref.ensures.value at c.in_ok-stored.ensures.stored)
-    ∙ ap (λ (t : Table). store_pages (record { pool = pool; table = t.numbers }) (map changed_page_view next.changed.items)) c.copy-self-inside.ensures in
-    let made : Checkpoint = record { count = last.count + spacing; cpu = next.cpu; devices = next.devices; sent = c.new.result; table = c.copy.result } in
-    subst (λ (p : PastParts). IsLonger p (past_of (parts_of c.store_pages-stored.new.stored.pool past.inputs c.push.new.self.items) spacing end)) c.self.view_is
-    (extended-longer pool past.inputs keyframes spacing end c.self.invariant last k inside c.index-last.ensures whole (last.count + spacing) refl room
-    next c.in_ok-next.ensures c.store_pages-stored.new.stored stored-so c.len-pages.ensures.pages made c.new.result.items
-    (ap (λ (t : Table). record { count = last.count + spacing; cpu = cpu_state next.cpu; devices = next.devices; sent = c.new.result.items; table = t.numbers }) c.copy.ensures)
-    c.push.new.self.items c.in_ok-push.ensures.items)
+    let count = next-count pool past.inputs keyframes spacing end c.self.invariant last k inside c.index-last.ensures whole to refl in
+    let room : to ≤ end = omega (arith, count, asked) in
+    let state = run-is pool past.inputs keyframes spacing end c.self.invariant last k inside c.index-last.ensures to (omega arith) in
+    subst (λ (p : PastParts). IsNextKeyframe p c.in_ok-next.next) c.self.view_is
+    (is-next pool past.inputs keyframes spacing end c.self.invariant last k inside c.index-last.ensures whole to refl c.in_ok-next.next room
+    begun.words (run_of past.inputs last.count (to - last.count) begun) refl state c.in_ok-next.ensures)
