@@ -2,7 +2,7 @@
 //!
 //! A search keeps nothing for a later one: the answer depends on the run and on the question alone. If its budget is spent, the caller
 //! asks again about the rest of the range.
-ghost use Rattle.std.specs.Prelude.{◌≡◌, ◌<◌, ◌≤◌, [], IfNone, IfOk, IfSome, length};
+ghost use Rattle.std.specs.Prelude.{◌≡◌, ◌<◌, ◌≤◌, [], IfNone, IfOk, IfSome, OnErr, length};
 ghost use Rattle.risc_search.specs.Search.{IsFirst, IsLast};
 ghost use Rattle.risc_search.specs.declared.search.TheConstants.{MAX_CONDITIONS};
 ghost use Rattle.oberon_past.specs.Past.{IsLonger};
@@ -39,6 +39,8 @@ impl Past {
         requires few { length conditions.now ≤ MAX_CONDITIONS }
         // It is the answer of the one run.
         ensures found { IfOk result (IsFound self.old.run self.old.end conditions.now which from to) }
+        // Only a question about counts of the past can fail.
+        ensures inside { OnErr result (IsRange self.old.run self.old.end from to) }
         // The past is of the same run, with keyframes added.
         ensures longer { IsLonger self.old self.new }
         // Asking again ends.
@@ -78,6 +80,8 @@ impl Past {
         requires room { 0 < room }
         // They are the hits of the one run.
         ensures found { IfOk result (AreFound self.old.run self.old.end conditions.now from to room) }
+        // Only a question about counts of the past can fail.
+        ensures inside { OnErr result (IsRange self.old.run self.old.end from to) }
         // The past is of the same run, with keyframes added.
         ensures longer { IsLonger self.old self.new }
         // Asking again ends.
