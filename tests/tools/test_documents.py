@@ -85,7 +85,8 @@ class DocumentsTest(ToolTest):
     def test_the_trusted_crates_are_those_that_are_used(self) -> None:
         lines = [line.partition(":") for line in (TOP / "crates.txt").read_text().splitlines() if ":" in line and line[0] != "#"]
         ours = {name.split()[0] for name, _, _ in lines}
-        ported = {name for _, _, names in lines for name in names.split()} - ours
+        # `core` and `std_alloc` are parts of the kit's own library
+        ported = {name for _, _, names in lines for name in names.split()} - ours - {"core", "std_alloc"}
         for document in (TOP / "README.md", TOP / "docs/proved.md"):
             trusted = re.search(r"the ported crates ([^;]*);", document.read_text())
             assert trusted
