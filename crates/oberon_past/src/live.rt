@@ -84,8 +84,8 @@ impl Past {
     /// ends before an instruction that sends a byte when there are `room` bytes already. Before that it does the instructions from the
     /// last keyframe to the old end once more, and adds the keyframes up to there that are missing, within the budget.
     ///
-    /// If memory runs out, the end is the old one, and keyframes may have been added; but for the keyframe at the new end there need be
-    /// none: it is added later.
+    /// If memory runs out, the end is the old one; keyframes may have been added. A keyframe at the new end for which there is no memory is
+    /// added later.
     pub fn run(
         &mut self,
         alloc: Global,
@@ -123,15 +123,19 @@ impl Past {
     }
 
     /// Returns the count up to which to run on now: within the budget, and no further than to the next keyframe, if that is after the end.
+    /// A machine that is stopped has nothing to do.
     fn within(&self, to: u64, budget: Steps) -> u64
         requires { self.now.end < to }
         ensures further { self.now.end < result }
         ensures inside { result ≤ to }
     {
-        let to = to.min(self.end.saturating_add(budget.count));
         let last = &self.keyframes[self.keyframes.len() - 1];
+        if last.cpu.stop != 0 {
+            return to;
+        }
+        let to = to.min(self.end.saturating_add(budget.count));
         let next = last.count.saturating_add(self.spacing.count);
-        if last.cpu.stop == 0 && next > self.end {
+        if next > self.end {
             return to.min(next);
         }
         to
