@@ -1,6 +1,6 @@
 //! The past of a machine that runs on: it sends a byte more in each turn of its loop, and takes the mouse from inputs.
 
-use oberon_past::{Answer, Ending, Moment, Past, PastFault, Progress, Steps};
+use oberon_past::{Answer, Ending, Past, PastFault, Progress, Steps};
 use risc_core::COUNTER_END;
 use risc_devices::{Devices, Input};
 use risc_model::{Cpu, Event, Flags};
@@ -68,8 +68,10 @@ fn moves(past: &mut Past, count: u64, mouse: u32) -> Result<(), PastFault> {
 
 /// Returns the register R0 and the mouse at a count.
 fn seen(alloc: Global, past: &mut Past, count: u64) -> Option<(u32, u32)> {
-    match past.at(alloc, count, None, Steps::new(1_000)?) {
-        Ok(Answer::Done(Moment { cpu, devices, .. })) => Some((cpu.r[0], devices.mouse())),
+    let budget = Steps::new(1_000)?;
+    let answer = past.at(alloc, count, None, budget).ok()?;
+    match answer {
+        Answer::Done(moment) => Some((moment.cpu.r[0], moment.devices.mouse())),
         _ => None,
     }
 }
