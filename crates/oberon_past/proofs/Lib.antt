@@ -8,3 +8,4 @@ mod Following
 mod Staying
 mod Adding
 mod Searches
+mod Traces

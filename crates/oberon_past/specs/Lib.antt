@@ -1,6 +1,8 @@
--- The past of a run. Read it in this order: a run, a past, what it answers, how it changes, what searches find in it.
+-- The past of a run. Read it in this order: a run, a past, what it answers, how it changes, what searches find in it, what its
+-- instructions do.
 pub mod Run
 pub mod Past
 pub mod Live
 pub mod Search
+pub mod Trace
 pub mod inner

@@ -17,6 +17,8 @@ mod progress;
 mod running;
 mod searching;
 mod steps;
+mod traced;
+mod tracing;
 
 pub use answer::Answer;
 pub use extent::Extent;
@@ -27,3 +29,4 @@ pub use moment::Moment;
 pub use past::Past;
 pub use progress::{Ending, Progress};
 pub use steps::Steps;
+pub use traced::{Record, Recorded, Records};

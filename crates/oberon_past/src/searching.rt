@@ -114,7 +114,7 @@ impl Past {
     }
 
     /// Returns why a range is refused, if it is not one of the past.
-    fn out_of_range(&self, from: u64, to: u64) -> Option<OutOfRange>
+    pub(crate) fn out_of_range(&self, from: u64, to: u64) -> Option<OutOfRange>
         ensures some { IfSome result (IsOutOfRange self.now.run self.now.end from to) }
         ensures none { IfNone result (IsRange self.now.run self.now.end from to) }
     {
