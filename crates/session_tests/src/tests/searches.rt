@@ -47,7 +47,7 @@ const RANGES: [(u64, u64, Option<u64>, Option<u64>); 6] = [
 ];
 
 /// Returns the past of the session.
-fn past(alloc: Global) -> Option<Past> {
+pub(super) fn past(alloc: Global) -> Option<Past> {
     let session = read_session(alloc, SESSION.as_bytes()).ok()?;
     let recording = make_recording(alloc, &session).ok()?;
     Past::open(alloc, recording, Steps::new(8)?).ok()
