@@ -9,3 +9,4 @@ mod Staying
 mod Adding
 mod Searches
 mod Traces
+mod Counting

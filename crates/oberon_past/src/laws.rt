@@ -1,7 +1,13 @@
-//! A law of searches. It is the contract of a function that does nothing.
+//! Laws of searches and of profiles, each the contract of a function that does nothing.
+ghost use Rattle.oberon_past.specs.Profile.{ProfileLaw};
 ghost use Rattle.oberon_past.specs.Search.{SearchLaw};
 
 /// States that the answer about the rest of a range is the answer about the range, when the other part is searched.
 pub const fn search_law()
     ensures { SearchLaw }
+{}
+
+/// States that what the profile of a range adds is what those of its first part and of the rest add, one after the other.
+pub const fn profile_law()
+    ensures { ProfileLaw }
 {}

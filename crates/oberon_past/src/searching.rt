@@ -221,9 +221,9 @@ impl Past {
     }
 }
 
-/// Returns where a search by a machine at the count `from` ends: after `budget` instructions, or at `to`. A machine that is stopped does
-/// none.
-fn search_end(machine: &Machine<'_>, from: u64, to: u64, budget: Steps) -> u64
+/// Returns where a search or a profile by a machine at the count `from` ends: after `budget` instructions, or at `to`. A machine that is
+/// stopped does none.
+pub(crate) fn search_end(machine: &Machine<'_>, from: u64, to: u64, budget: Steps) -> u64
     requires { from < to }
     ensures { (from < result) × (result ≤ to) }
 {
