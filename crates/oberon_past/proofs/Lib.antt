@@ -10,3 +10,4 @@ mod Adding
 mod Searches
 mod Traces
 mod Counting
+mod CallsFollowed

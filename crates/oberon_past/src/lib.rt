@@ -5,6 +5,8 @@
 #![tactic(auto)]
 
 mod answer;
+mod called;
+mod calling;
 mod copying;
 mod extent;
 mod fault;
@@ -23,6 +25,7 @@ mod traced;
 mod tracing;
 
 pub use answer::Answer;
+pub use called::{Called, Calls};
 pub use extent::Extent;
 pub use fault::PastFault;
 pub use found::{AllFound, Found, OutOfRange, Which};
