@@ -15,7 +15,7 @@
  * A function that writes an answer writes it to the front of the buffer, and leaves the bytes after it as they were. A call that is
  * refused writes nothing. There are four exceptions, each said where its function is declared: *out_count and *changed_count at
  * GALLUSPA_NO_ROOM, the two counts of galluspa_claims then, the records of galluspa_records at GALLUSPA_OUT_OF_MEMORY, and a
- * galluspa_past, which a refused galluspa_past_open or galluspa_past_begin closes.
+ * galluspa_past, which a refused galluspa_past_open, galluspa_past_begin or galluspa_past_branch closes.
  *
  * A recording and a session are bytes in the formats of docs/formats.md. docs/from-c.md is a walk through this header. */
 #ifndef GALLUSPA_H
@@ -435,6 +435,34 @@ uint8_t galluspa_past_at(galluspa_past *past, uint64_t at, uint64_t from, uint64
  * state->count. Returns as galluspa_past_at does; GALLUSPA_MORE if from is more than a spacing after the last keyframe. */
 uint8_t galluspa_past_near(galluspa_past *past, uint64_t at, uint64_t from, galluspa_state *state, uint16_t slots[1024],
                            galluspa_page *changed, size_t changed_len, size_t *changed_count);
+
+/* Adds inputs to a past, after those that it has: for a live machine, whose inputs come while it runs. None is below the end of the
+ * past or the count of an input that it has; else they are as for galluspa_advance. Returns GALLUSPA_DONE; or GALLUSPA_OUT_OF_RANGE,
+ * GALLUSPA_CLOSED or GALLUSPA_OUT_OF_MEMORY (never for inputs that galluspa_advance refuses), and then none is added. */
+uint8_t galluspa_past_input(galluspa_past *past, const galluspa_input *inputs, size_t inputs_len);
+
+/* Runs on from the end of the past to the count to, which becomes its end, with the inputs of these counts. The bytes that the machine
+ * sends are written to the front of sent, and their number to *sent_count. budget is how many instructions it may do, those of idle
+ * loops that are passed over too; if keyframes up to the old end have to be made first, it may do as many for these, and some three
+ * spacings beside them.
+ *
+ * Returns GALLUSPA_DONE; GALLUSPA_MORE if the budget is spent, and GALLUSPA_NO_ROOM before an instruction that sends a byte for which
+ * there is no room. With either of them the end is the count that the run came to, the bytes up to it are written, and a call with the
+ * same numbers goes on from there. Or GALLUSPA_OUT_OF_RANGE if budget is 0 or to is below the end, GALLUSPA_CLOSED, or
+ * GALLUSPA_OUT_OF_MEMORY: then nothing is written, and the end stays. */
+uint8_t galluspa_past_run(galluspa_past *past, uint64_t to, uint64_t budget, uint8_t *sent, size_t sent_len, size_t *sent_count);
+
+/* Drops what comes after the count at, which becomes the end: the inputs from this count on, and the keyframes after it. A live machine
+ * goes on from there. It allocates nothing, and the pages stay. Returns GALLUSPA_DONE; or GALLUSPA_OUT_OF_RANGE if at is before the
+ * first count, GALLUSPA_LATER if it is after the end, or GALLUSPA_CLOSED, and then nothing is dropped. */
+uint8_t galluspa_past_cut(galluspa_past *past, uint64_t at);
+
+/* Makes a second past of the same run up to the count at, with the inputs before it and the keyframes up to it, and opens it in *branch,
+ * which is another galluspa_past, or zeros. It shares nothing with the first: a second thread may have it. A past that is open in
+ * *branch is closed first. Returns GALLUSPA_DONE; or GALLUSPA_OUT_OF_RANGE if at is before the first count, GALLUSPA_LATER if it is after
+ * the end, GALLUSPA_CLOSED if none is open in *past, or GALLUSPA_OUT_OF_MEMORY (never for a count that is outside the past), and then
+ * *branch is zeros. It runs nothing, and takes as long as to copy the pages and the inputs. */
+uint8_t galluspa_past_branch(galluspa_past *past, uint64_t at, galluspa_past *branch);
 
 #ifdef __cplusplus
 }

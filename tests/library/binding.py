@@ -92,7 +92,7 @@ class Library:
             getattr(self.c, f"galluspa_{name}").restype = ctypes.c_size_t
         for name in ("claim", "claims", "advance", "find", "hits", "profile", "records", "calls", "begin", "extend"):
             getattr(self.c, f"galluspa_{name}").restype = ctypes.c_uint8
-        for name in ("open", "begin", "extent", "at", "near"):
+        for name in ("open", "begin", "extent", "at", "near", "input", "run", "cut", "branch"):
             getattr(self.c, f"galluspa_past_{name}").restype = ctypes.c_uint8
         self.c.galluspa_past_close.restype = None
 
@@ -367,3 +367,33 @@ class Library:
         if (bytes(slots)[2 * number :] + bytes(pages)[1024 * number :]).strip(b"\xaa"):
             fail("a question writes after its pages")
         return code, state, [(slots[i], bytes(pages[i])) for i in range(number)], count.value
+
+    def input_past(self, past: Past, inputs: Sequence[Input]) -> int:
+        """Returns the result of adding inputs to a past."""
+        given = (Input * len(inputs))(*inputs)
+        code: int = self.c.galluspa_past_input(ctypes.byref(past), given, ctypes.c_size_t(len(inputs)))
+        return code
+
+    def run_past(self, past: Past, to: int, budget: int = 1 << 40, room: int = 4096) -> tuple[int, bytes]:
+        """Returns the result of running a past on, and the bytes that it sends. Nothing is to be written if it is refused, and nothing after
+        the bytes.
+        """
+        sent, count = ctypes.create_string_buffer(b"\xaa" * (room + 1), room + 1), ctypes.c_size_t(77)
+        asked = ctypes.byref(past), ctypes.c_uint64(to), ctypes.c_uint64(budget)
+        code = self.c.galluspa_past_run(*asked, sent, ctypes.c_size_t(room), ctypes.byref(count))
+        runs = code in (0, 2, 12)
+        number = count.value if runs else 0
+        if sent.raw[number:].strip(b"\xaa") or (not runs and count.value != 77):
+            fail("a run of a past writes something else than its bytes")
+        return code, sent.raw[:number]
+
+    def cut_past(self, past: Past, at: int) -> int:
+        """Returns the result of dropping what comes after a count of a past."""
+        code: int = self.c.galluspa_past_cut(ctypes.byref(past), ctypes.c_uint64(at))
+        return code
+
+    def branch_past(self, past: Past, at: int, branch: Past) -> int:
+        """Returns the result of making a branch of a past. Its handle is to be zeros if it is refused."""
+        code: int = self.c.galluspa_past_branch(ctypes.byref(past), ctypes.c_uint64(at), ctypes.byref(branch))
+        expect("whether a branch is open", (branch.is_open, bool(branch.past)), (int(not code), not code))
+        return code

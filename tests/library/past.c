@@ -30,13 +30,15 @@ void __wrap_free(void *old) {
     __real_free(old);
 }
 
-enum { AT = 1000000, FROM = 200003, SPACING = 65536 };
+enum { AT = 1000000, FROM = 200003, SPACING = 65536, FURTHER = 100000 };
 static uint8_t text[1 << 20];
 static uint32_t words[GALLUSPA_WORDS];
 static galluspa_state first, state, own_state;
 static galluspa_page pages[1024], own_pages[1024];
 static uint16_t slots[1024], own_slots[1024];
 static size_t text_len, own_count;
+static uint8_t sent[4096];
+static galluspa_past branch;
 
 static void fail(const char *what) {
     printf("%s, request %lu\n", what, refused);
@@ -44,12 +46,19 @@ static void fail(const char *what) {
 }
 
 static uint8_t call(int which, galluspa_past *past, size_t *count) {
+    galluspa_extent extent = {0};
     memset(&state, 0xAA, sizeof state), memset(slots, 0xAA, sizeof slots), memset(pages, 0xAA, sizeof pages);
+    memset(sent, 0xAA, sizeof sent);
     *count = 77;
+    galluspa_past_extent(past, &extent);
+    galluspa_input inputs[] = {{extent.end, 4, 28}, {extent.end + 9, 4, 240}};
     if (which == 0) return galluspa_past_open(past, text, text_len, SPACING);
     if (which == 1) return galluspa_past_begin(past, &first, words, GALLUSPA_WORDS, SPACING);
     if (which == 2) return galluspa_past_at(past, AT, FROM, UINT64_MAX, &state, slots, pages, 1024, count);
-    return galluspa_past_near(past, AT, GALLUSPA_NO_COUNT, &state, slots, pages, 1024, count);
+    if (which == 3) return galluspa_past_near(past, AT, GALLUSPA_NO_COUNT, &state, slots, pages, 1024, count);
+    if (which == 4) return galluspa_past_input(past, inputs, 2);
+    if (which == 5) return galluspa_past_run(past, extent.end + FURTHER, UINT64_MAX, sent, sizeof sent, count);
+    return galluspa_past_branch(past, AT, &branch);
 }
 
 static int is_kept(const void *bytes, size_t size) {
@@ -61,30 +70,36 @@ static int is_kept(const void *bytes, size_t size) {
 /* Calls a function with one request refused, and then once more. Returns whether a request was refused. */
 static int answers(int which) {
     galluspa_past past = {0};
+    galluspa_extent was = {0}, is = {0};
     size_t count, before = blocks;
     unsigned long now = refused;
     refused = 0;
     if (which > 1 && call(0, &past, &count)) fail("it is not opened");
+    if (which == 6 && call(2, &past, &count)) fail("it is not run");
+    galluspa_past_extent(&past, &was);
     calls = 0, refused = now;
     uint8_t result = call(which, &past, &count);
     unsigned long made = calls;
     if (result && result != GALLUSPA_OUT_OF_MEMORY) fail("another answer");
     if (result && made < now) fail("no request was refused");
-    if (result && (count != 77 || !is_kept(&state, sizeof state) || !is_kept(slots, sizeof slots) || !is_kept(pages, sizeof pages))) fail("something is written");
+    if (result && (count != 77 || !is_kept(&state, sizeof state) || !is_kept(slots, sizeof slots) || !is_kept(pages, sizeof pages) || !is_kept(sent, sizeof sent))) fail("something is written");
+    galluspa_past_extent(&past, &is);
+    if (which > 1 && result && (is.end != was.end || is.inputs != was.inputs)) fail("the past is another");
+    if (branch.is_open != (which == 6 && !result)) fail("a branch is open, or not");
     if (which < 2 && (result == GALLUSPA_DONE) != (past.is_open != 0)) fail("it is open, or not");
     if (which < 2 && result && (past.past || blocks != before)) fail("something is held");
     refused = 0;
     if (which > 1 && result && call(which, &past, &count)) fail("it is not answered again");
     if (which == 2 && (count != own_count || memcmp(&state, &own_state, sizeof state) || memcmp(slots, own_slots, 2 * count) || memcmp(pages, own_pages, 1024 * count)))
         fail("another state");
-    galluspa_past_close(&past);
+    galluspa_past_close(&past), galluspa_past_close(&branch);
     if (past.past || past.is_open || blocks != before) fail("something is left");
     refused = now;
     return made >= now;
 }
 
 int main(int argc, char **argv) {
-    static const char *name[] = {"open", "begin", "at", "near"};
+    static const char *name[] = {"open", "begin", "at", "near", "input", "run", "branch"};
     galluspa_past past = {0};
     FILE *file = argc > 1 ? fopen(argv[1], "rb") : NULL;
     if (!file) return 9;
@@ -96,7 +111,7 @@ int main(int argc, char **argv) {
     memcpy(own_slots, slots, sizeof slots), memcpy(own_pages, pages, sizeof pages);
     galluspa_past_close(&past);
     if (blocks) return 9;
-    for (int which = 0; which < 4; which++) {
+    for (int which = 0; which < 7; which++) {
         for (refused = 1; answers(which);) refused++;
         printf("%s%s %lu", which ? ", " : "", name[which], refused - 1);
     }

@@ -1,12 +1,13 @@
-"""The past of a run, against `galluspa_advance`: counts in any order, from any other, with any budget; and each refusal."""
+"""The past of a run, against `galluspa_advance`: counts in any order, from any other, with any budget; live machines; each refusal."""
 
+import copy
 import ctypes
 import json
 import random
 from collections.abc import Sequence
 from pathlib import Path
 
-from tests.library.binding import NO_COUNT, WORDS, Library, Past, State, Words
+from tests.library.binding import NO_COUNT, WORDS, Input, Library, Past, State, Words
 from tests.library.calls import inputs_and_last
 from tests.library.trial import EXAMPLES, FACE, PROGRAM, WARNINGS, expect, fail, run
 
@@ -36,6 +37,21 @@ class Run:
             expect(f"an advance to {count}", self.library.advance(state, words, self.inputs, count)[0], 0)
             self.known[count] = bytes(state), bytes(words)
         return self.known[count]
+
+    def sent(self, start: int, end: int) -> bytes:
+        """Returns the bytes that the machine sends from one count up to another."""
+        state, words = self.at(start)
+        machine = State.from_buffer_copy(state), (ctypes.c_uint32 * WORDS).from_buffer_copy(words)
+        code, sent = self.library.advance(*machine, self.inputs, end, 1 << 16)
+        expect(f"an advance from {start} to {end}", code, 0)
+        return sent
+
+    def until(self, count: int, inputs: Sequence[Input]) -> "Run":
+        """Returns the run that takes other inputs from a count on."""
+        other = copy.copy(self)
+        other.inputs = [*(it for it in self.inputs if it.count < count), *inputs]
+        other.known = {at: it for at, it in self.known.items() if at <= count}
+        return other
 
 
 def recordings() -> Sequence[bytes]:
@@ -114,6 +130,122 @@ def keep_pasts(library: Library) -> None:
         fail("no budget was spent")
     library.close_past(past)
     print(f"past: {questions} questions about six recordings are answered as by galluspa_advance; {spent} times a budget was spent")
+
+
+def run_on(library: Library, past: Past, own: Run, to: int, budget: int, room: int) -> int:
+    """Runs a past on to a count, and compares where each call ends and what the machine sends. Returns how many calls end early."""
+    early = 0
+    while True:
+        before = library.extent(past)[1]
+        code, sent = library.run_past(past, to, budget, room)
+        now = library.extent(past)[1]
+        expect(f"what is sent from {before.end} to {now.end}", sent, own.sent(before.end, now.end))
+        if code == 0:
+            expect("the end of a past that ran on", now.end, to)
+            return early
+        expect("how a run ends early", (code in (2, 12), now.end < to), (True, True))
+        if code == 2:
+            expect("no room", (len(sent), len(own.sent(before.end, now.end + 1))), (room, room + 1))
+        else:
+            expect("progress", now.end > before.end or now.keyframes > before.keyframes, True)
+        early += 1
+
+
+def other_inputs(chance: random.Random, count: int) -> list[Input]:
+    """Returns some inputs from a count on."""
+    counts = sorted(count + chance.choice((0, 1, 50, 5_000)) for _ in range(chance.randint(0, 4)))
+    return [Input(it, 4, chance.randint(0, 255)) for it in counts]
+
+
+def compare_counts(library: Library, past: Past, own: Run, chance: random.Random) -> None:
+    """Compares some states of a past with those of a run, among them the first one and the last one."""
+    extent = library.extent(past)[1]
+    for at in (extent.first, extent.end, chance.randint(extent.first, extent.end)):
+        ask(library, past, own, at, chance.choice([NO_COUNT, extent.first, extent.end]), chance.choice([SPACING, 1 << 40]))
+    expect("the inputs", extent.inputs, len(own.inputs))
+
+
+def run_live_pasts(library: Library) -> None:
+    """Pasts that take inputs, run on, branch and are cut have the states and the bytes of the run with these inputs."""
+    past, branch, chance, early, cuts = Past(), Past(), random.Random(7), 0, 0
+    for text in recordings():
+        whole = Run(library, text)
+        _, state, words = library.claim(text, 0)
+        expect("a live machine", library.begin_past(past, state, words, SPACING), 0)
+        own, end = whole.until(0, []), 0
+        while end < whole.end:
+            to = min(end + chance.choice((1, 100, 30_000, 700_000)), whole.end)
+            due = [it for it in whole.inputs if end <= it.count < to]
+            own.inputs = [*own.inputs, *due]
+            expect("inputs of a past", library.input_past(past, due), 0)
+            budget = chance.choice((1, 7) if to - end <= 100 else (5_000, SPACING, 1 << 40))
+            early += run_on(library, past, own, to, budget, chance.choice((1, 3, 4096)))
+            end = to
+            if chance.random() < 0.3:
+                compare_counts(library, past, own, chance)
+        compare_counts(library, past, own, chance)
+        for _ in range(4):
+            at, now = chance.choice((0, end, chance.randint(0, end))), bytes(library.extent(past)[1])
+            expect("a branch", library.branch_past(past, at, branch), 0)
+            expect("a past that has a branch", bytes(library.extent(past)[1]), now)
+            expect("the end of a branch", library.extent(branch)[1].end, at)
+            shorter = own.until(at, [])
+            compare_counts(library, branch, shorter, chance)
+            cut = chance.randint(0, at)
+            expect("a cut", library.cut_past(branch, cut), 0)
+            expect("the end of a past that is cut", library.extent(branch)[1].end, cut)
+            inputs = other_inputs(chance, cut)
+            expect("other inputs", library.input_past(branch, inputs), 0)
+            other = own.until(cut, inputs)
+            early += run_on(library, branch, other, cut + chance.choice((0, 1, 300_000)), 1 << 40, 4096)
+            compare_counts(library, branch, other, chance)
+            compare_counts(library, past, own, chance)
+            cuts += 1
+    library.close_past(past)
+    library.close_past(branch)
+    if early < 20:
+        fail(f"only {early} runs end early")
+    print(f"past: six live machines run as by galluspa_advance; {early} calls end early, {cuts} branches are cut and run on")
+
+
+def refuse_live_pasts(library: Library) -> None:
+    """Each refusal of the calls with a live machine, and that it leaves the past as it is."""
+    own, past, branch = Run(library, FACE), Past(), Past()
+    first, end = 1_000_000, 1_100_000
+    state, words = State.from_buffer_copy(own.at(first)[0]), (ctypes.c_uint32 * WORDS).from_buffer_copy(own.at(first)[1])
+
+    def results() -> list[int]:
+        return [
+            library.input_past(past, []), library.input_past(past, [Input(0, 9, 0)]), library.run_past(past, end)[0],
+            library.run_past(past, 0, 0)[0], library.cut_past(past, end), library.branch_past(past, end, branch),
+        ]  # fmt: skip
+
+    expect("calls with a past that is closed", results(), [13] * 6)
+    expect("a past", library.begin_past(past, state, words, SPACING), 0)
+    expect("inputs", library.input_past(past, [Input(first, 4, 28), Input(end + 5, 4, 240)]), 0)
+    expect("a run", library.run_past(past, end)[0], 0)
+    before = bytes(library.extent(past)[1])
+    bad = [
+        [(end - 1, 4, 1)], [(end + 4, 4, 1)], [(end + 9, 4, 1), (end + 8, 4, 1)], [((1 << 40) + 1, 4, 1)], [(end + 9, 0, 1)],
+        [(end + 9, 7, 1)], [(end + 9, 4, 256)], [(end + 9, 4, 1), (end + 9, 260, 1)],
+    ]  # fmt: skip
+    for inputs in bad:
+        expect(f"inputs {inputs}", library.input_past(past, [Input(*it) for it in inputs]), 1)
+    for to, budget in ((end - 1, 1), (0, 1), (end, 0), (end + 1, 0)):
+        expect(f"a run to {to} with the budget {budget}", library.run_past(past, to, budget)[0], 1)
+    for at, code in ((first - 1, 1), (0, 1), (end + 1, 14), (NO_COUNT, 14)):
+        expect(f"a cut at {at}", library.cut_past(past, at), code)
+        expect("a past", library.begin_past(branch, state, words), 0)
+        expect(f"a branch at {at}", library.branch_past(past, at, branch), code)
+    expect("a past that is refused things", bytes(library.extent(past)[1]), before)
+    expect("inputs as late as can be", library.input_past(past, [Input(end + 5, 4, 1), Input(1 << 40, 4, 1)]), 0)
+    expect("a run to the end", library.run_past(past, end, 1, 0), (0, b""))
+    expect("a cut at the end", (library.cut_past(past, end), library.extent(past)[1].inputs), (0, 1))
+    expect("a cut at the first count", (library.cut_past(past, first), library.extent(past)[1].inputs), (0, 0))
+    expect("a branch", library.branch_past(past, first, branch), 0)
+    library.close_past(past)
+    expect("a branch of a past that is closed", library.branch_past(past, first, branch), 13)
+    print("past: each refusal of a live machine leaves its past as it is")
 
 
 def begin_pasts(library: Library) -> None:

@@ -31,6 +31,8 @@ TRIALS: Sequence[Callable[[Library], None]] = (
     pasts.keep_pasts,
     pasts.begin_pasts,
     pasts.refuse_pasts,
+    pasts.run_live_pasts,
+    pasts.refuse_live_pasts,
     calls.call_together,
     calls.read_together,
     calls.read_longest,

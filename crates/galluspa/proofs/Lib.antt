@@ -16,4 +16,5 @@ mod JoinLemmas
 pub mod OpenLemmas
 mod LooseValues
 mod MomentLemmas
+mod LiveLemmas
 mod SealedValues

@@ -11,5 +11,6 @@ pub mod Profile
 pub mod Records
 pub mod Calls
 pub mod Past
+pub mod Live
 pub mod Laws
 pub mod inner

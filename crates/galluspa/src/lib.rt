@@ -4,7 +4,7 @@
 //!
 //! A function takes all that it needs in slices of the caller's memory, and keeps nothing, so that nothing has to be freed: a machine
 //! lives with the caller as plain numbers, a `RawState` and its 262,144 words. Only the past of a run is kept, in a `RawPast` of the
-//! caller, from `galluspa_past_open` or `galluspa_past_begin` on until `galluspa_past_close`.
+//! caller, from `galluspa_past_open`, `galluspa_past_begin` or `galluspa_past_branch` on until `galluspa_past_close`.
 //!
 //! A slice that a call writes must not overlap another of its slices, and no pointer is null, not even that of an empty slice. Each
 //! slice is valid memory of its length, aligned for its type. During the call no other thread writes it, or reads it if the call
@@ -20,14 +20,17 @@
 mod advance;
 mod answer;
 mod at;
+mod branch;
 mod calls;
 mod claim;
 mod claims;
 mod conditions;
+mod cut;
 mod extend;
 mod find;
 mod front;
 mod hits;
+mod input;
 mod laws;
 mod loose;
 mod moments;
@@ -37,19 +40,23 @@ mod profile;
 mod raw;
 mod records;
 mod refusal;
+mod run;
 mod sealed;
 mod words;
 
 pub use advance::galluspa_advance;
 pub use answer::{galluspa_check, galluspa_migrate, galluspa_record};
 pub use at::galluspa_past_at;
+pub use branch::galluspa_past_branch;
 pub use calls::{RawTurn, galluspa_calls};
 pub use claim::galluspa_claim;
 pub use claims::{RawCheckpoint, RawPage, galluspa_claims};
 pub use conditions::{RawCondition, RawHit};
+pub use cut::galluspa_past_cut;
 pub use extend::{galluspa_begin, galluspa_extend};
 pub use find::galluspa_find;
 pub use hits::galluspa_hits;
+pub use input::galluspa_past_input;
 pub use laws::{codes_law, counts_law, frame_law, hits_join_law, join_law, record_law};
 pub use moments::NO_COUNT;
 pub use near::galluspa_past_near;
@@ -64,4 +71,5 @@ pub use refusal::{
     OUT_OF_MEMORY, OUT_OF_RANGE, PENDING_INPUTS, TOO_MANY_CHECKPOINTS, TOO_MANY_INPUTS,
     TOO_MANY_PAGES, TOO_MUCH_OUTPUT,
 };
+pub use run::galluspa_past_run;
 pub use sealed::RawPast;

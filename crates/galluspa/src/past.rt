@@ -55,7 +55,8 @@ fn steps_of(spacing: u64) -> Option<Steps>
     Steps::new(spacing)
 }
 
-fn boxed(alloc: Global, past: Past) -> Result<Box<Past>, AllocError>
+/// Puts a past in a box.
+pub(crate) fn boxed(alloc: Global, past: Past) -> Result<Box<Past>, AllocError>
     ensures { IfOk result (λ boxed. boxed.value ≡ past) }
 {
     Ok(Box::new(alloc, past)?)
