@@ -74,7 +74,7 @@ static int answers(int which) {
     size_t count, before = blocks;
     unsigned long now = refused;
     refused = 0;
-    if (which > 1 && call(0, &past, &count)) fail("it is not opened");
+    if (which > 1 && call(which == 5, &past, &count)) fail("it is not opened"); /* a run goes on from the first state */
     if (which == 6 && call(2, &past, &count)) fail("it is not run");
     galluspa_past_extent(&past, &was);
     calls = 0, refused = now;

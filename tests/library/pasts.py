@@ -133,19 +133,20 @@ def keep_pasts(library: Library) -> None:
 
 
 def run_on(library: Library, past: Past, own: Run, to: int, budget: int, room: int) -> int:
-    """Runs a past on to a count, and compares where each call ends and what the machine sends. Returns how many calls end early."""
-    early = 0
+    """Runs a past on to a count, and compares where calls end and what the machine sends. Returns how many calls end early."""
+    early, start, sent = 0, library.extent(past)[1].end, b""
     while True:
         before = library.extent(past)[1]
-        code, sent = library.run_past(past, to, budget, room)
+        code, more = library.run_past(past, to, budget, room)
         now = library.extent(past)[1]
-        expect(f"what is sent from {before.end} to {now.end}", sent, own.sent(before.end, now.end))
+        sent += more
         if code == 0:
             expect("the end of a past that ran on", now.end, to)
+            expect(f"what is sent from {start} to {to}", sent, own.sent(start, to))
             return early
         expect("how a run ends early", (code in (2, 12), now.end < to), (True, True))
         if code == 2:
-            expect("no room", (len(sent), len(own.sent(before.end, now.end + 1))), (room, room + 1))
+            expect("no room", (len(more), len(own.sent(start, now.end + 1))), (room, len(sent) + 1))
         else:
             expect("progress", now.end > before.end or now.keyframes > before.keyframes, True)
         early += 1
@@ -174,11 +175,11 @@ def run_live_pasts(library: Library) -> None:
         expect("a live machine", library.begin_past(past, state, words, SPACING), 0)
         own, end = whole.until(0, []), 0
         while end < whole.end:
-            to = min(end + chance.choice((1, 100, 30_000, 700_000)), whole.end)
+            to = min(end + chance.choice((1, 100, whole.end // 5 + 1)), whole.end)
             due = [it for it in whole.inputs if end <= it.count < to]
             own.inputs = [*own.inputs, *due]
             expect("inputs of a past", library.input_past(past, due), 0)
-            budget = chance.choice((1, 7) if to - end <= 100 else (5_000, SPACING, 1 << 40))
+            budget = chance.choice((1, 7) if to - end <= 100 else ((to - end) // 9, SPACING, 1 << 40))
             early += run_on(library, past, own, to, budget, chance.choice((1, 3, 4096)))
             end = to
             if chance.random() < 0.3:
