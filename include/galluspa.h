@@ -53,7 +53,7 @@ enum {
     GALLUSPA_TOO_MUCH_OUTPUT = 8,      /* .. more than 1,048,576 bytes sent */
     GALLUSPA_TOO_MANY_PAGES = 9,       /* .. more than 65,536 pages */
     GALLUSPA_PENDING_INPUTS = 10,      /* the recording has inputs at or after its last checkpoint */
-    GALLUSPA_NOT_FOUND = 11,           /* of galluspa_find alone: no condition holds at any of the counts */
+    GALLUSPA_NOT_FOUND = 11,           /* of galluspa_find and galluspa_past_find: no condition holds at any of the counts */
     GALLUSPA_MORE = 12,                /* of a galluspa_past: the budget is spent; call again to go on */
     GALLUSPA_CLOSED = 13,              /* of a galluspa_past: none is open */
     GALLUSPA_LATER = 14                /* of a galluspa_past: a count is after its end */
@@ -463,6 +463,34 @@ uint8_t galluspa_past_cut(galluspa_past *past, uint64_t at);
  * the end, GALLUSPA_CLOSED if none is open in *past, or GALLUSPA_OUT_OF_MEMORY (never for a count that is outside the past), and then
  * *branch is zeros. It runs nothing, and takes as long as to copy the pages and the inputs. */
 uint8_t galluspa_past_branch(galluspa_past *past, uint64_t at, galluspa_past *branch);
+
+/* Finds the first count, from the count from up to but not including to, at which a condition of a list holds, if wanted is
+ * GALLUSPA_FIRST, or the last if it is GALLUSPA_LAST. The conditions are as for galluspa_find. The search for the last goes from keyframe
+ * to keyframe, backward from to, so that one near the end of the range is found soon.
+ *
+ * The past first runs on as far as it needs, and adds keyframes: up to from for the first, up to to for the last. budget is how many
+ * instructions it may do for these, and how many it may search, those of idle loops that are passed over too; beside these a call does
+ * at most some three spacings of instructions.
+ *
+ * Returns GALLUSPA_DONE, and writes the hit; GALLUSPA_NOT_FOUND if there is none; or GALLUSPA_MORE if the budget is spent, and writes
+ * *progress: the range is searched from from up to it for the first, or from to down to it for the last, and nothing is found there.
+ * Call again with *progress in place of from, or of to for the last, to go on: the answer is that about the whole range.
+ *
+ * Else it is GALLUSPA_OUT_OF_RANGE if from is before the first count or after to, budget is 0, or wanted or the conditions are as
+ * galluspa_find refuses them; GALLUSPA_LATER if to is after the end; GALLUSPA_CLOSED; or GALLUSPA_OUT_OF_MEMORY (only if all is in
+ * range). Then nothing is written. */
+uint8_t galluspa_past_find(galluspa_past *past, uint64_t from, uint64_t to, const galluspa_condition *conditions,
+                           size_t conditions_len, uint32_t wanted, uint64_t budget, galluspa_hit *hit, uint64_t *progress);
+
+/* Finds all counts, from the count *from up to but not including to, at which a condition holds, in their order: writes them to the front
+ * of hits, which is not empty, and their number to *hits_count. *from is then the count to go on from: to, or, if hits is full, the count
+ * after the last of them, even if no more follow.
+ *
+ * Returns GALLUSPA_DONE; or GALLUSPA_MORE if the budget, which is as for galluspa_past_find, is spent: the hits before the new *from are
+ * written. After either, a call with the same numbers goes on, until GALLUSPA_DONE comes with *from at to. Else it returns as
+ * galluspa_past_find does, GALLUSPA_OUT_OF_RANGE also if hits_len is 0, and nothing is written. */
+uint8_t galluspa_past_hits(galluspa_past *past, uint64_t *from, uint64_t to, const galluspa_condition *conditions,
+                           size_t conditions_len, uint64_t budget, galluspa_hit *hits, size_t hits_len, size_t *hits_count);
 
 #ifdef __cplusplus
 }

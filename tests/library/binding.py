@@ -92,7 +92,7 @@ class Library:
             getattr(self.c, f"galluspa_{name}").restype = ctypes.c_size_t
         for name in ("claim", "claims", "advance", "find", "hits", "profile", "records", "calls", "begin", "extend"):
             getattr(self.c, f"galluspa_{name}").restype = ctypes.c_uint8
-        for name in ("open", "begin", "extent", "at", "near", "input", "run", "cut", "branch"):
+        for name in ("open", "begin", "extent", "at", "near", "input", "run", "cut", "branch", "find", "hits"):
             getattr(self.c, f"galluspa_past_{name}").restype = ctypes.c_uint8
         self.c.galluspa_past_close.restype = None
 
@@ -397,3 +397,32 @@ class Library:
         code: int = self.c.galluspa_past_branch(ctypes.byref(past), ctypes.c_uint64(at), ctypes.byref(branch))
         expect("whether a branch is open", (branch.is_open, bool(branch.past)), (int(not code), not code))
         return code
+
+    def find_in_past(
+        self, past: Past, start: int, end: int, conditions: Sequence[Sought], wanted: int, budget: int = 1 << 40
+    ) -> tuple[int, tuple[int, int] | None, int]:
+        """Returns the result of a search of a past, the count and the index of the hit, and how far it came. Only these are to be written."""
+        asked = (Condition * len(conditions))(*(Condition(*it) for it in conditions))
+        hit, progress = Hit(77, 78), ctypes.c_uint64(79)
+        range_of = ctypes.byref(past), ctypes.c_uint64(start), ctypes.c_uint64(end)
+        rest = ctypes.c_uint32(wanted), ctypes.c_uint64(budget), ctypes.byref(hit), ctypes.byref(progress)
+        code = self.c.galluspa_past_find(*range_of, asked, ctypes.c_size_t(len(conditions)), *rest)
+        if (code and (hit.count, hit.condition) != (77, 78)) or (code != 12 and progress.value != 79):
+            fail("a search of a past writes something else than its answer")
+        return code, None if code else (hit.count, hit.condition), progress.value
+
+    def hits_in_past(
+        self, past: Past, start: int, end: int, conditions: Sequence[Sought], room: int, budget: int = 1 << 40
+    ) -> tuple[int, list[tuple[int, int]], int]:
+        """Returns the result of a search of a past for all hits, these, and where to go on. Nothing else is to be written."""
+        asked = (Condition * len(conditions))(*(Condition(*it) for it in conditions))
+        hits, count = (Hit * (room + 1))(*(Hit(77, 78) for _ in range(room + 1))), ctypes.c_size_t(77)
+        at = ctypes.c_uint64(start)
+        range_of = ctypes.byref(past), ctypes.byref(at), ctypes.c_uint64(end)
+        rest = ctypes.c_uint64(budget), hits, ctypes.c_size_t(room), ctypes.byref(count)
+        code = self.c.galluspa_past_hits(*range_of, asked, ctypes.c_size_t(len(conditions)), *rest)
+        number = count.value if code in (0, 12) else 0
+        found = [(it.count, it.condition) for it in hits]
+        if any(it != (77, 78) for it in found[number:]) or (code not in (0, 12) and (at.value, count.value) != (start, 77)):
+            fail("a search of a past for all hits writes something else than its answer")
+        return code, found[:number], at.value

@@ -39,6 +39,7 @@ static uint16_t slots[1024], own_slots[1024];
 static size_t text_len, own_count;
 static uint8_t sent[4096];
 static galluspa_past branch;
+static galluspa_hit hit, hits[1];
 
 static void fail(const char *what) {
     printf("%s, request %lu\n", what, refused);
@@ -48,9 +49,11 @@ static void fail(const char *what) {
 static uint8_t call(int which, galluspa_past *past, size_t *count) {
     galluspa_extent extent = {0};
     memset(&state, 0xAA, sizeof state), memset(slots, 0xAA, sizeof slots), memset(pages, 0xAA, sizeof pages);
-    memset(sent, 0xAA, sizeof sent);
+    memset(sent, 0xAA, sizeof sent), memset(&hit, 0xAA, sizeof hit), memset(hits, 0xAA, sizeof hits);
     *count = 77;
     galluspa_past_extent(past, &extent);
+    galluspa_condition store = {.kind = GALLUSPA_STORE, .from = 0, .end = 1 << 24};
+    uint64_t at = FROM;
     galluspa_input inputs[] = {{extent.end, 4, 28}, {extent.end + 9, 4, 240}};
     if (which == 0) return galluspa_past_open(past, text, text_len, SPACING);
     if (which == 1) return galluspa_past_begin(past, &first, words, GALLUSPA_WORDS, SPACING);
@@ -58,7 +61,9 @@ static uint8_t call(int which, galluspa_past *past, size_t *count) {
     if (which == 3) return galluspa_past_near(past, AT, GALLUSPA_NO_COUNT, &state, slots, pages, 1024, count);
     if (which == 4) return galluspa_past_input(past, inputs, 2);
     if (which == 5) return galluspa_past_run(past, extent.end + FURTHER, UINT64_MAX, sent, sizeof sent, count);
-    return galluspa_past_branch(past, AT, &branch);
+    if (which == 6) return galluspa_past_branch(past, AT, &branch);
+    if (which == 7) return galluspa_past_find(past, FROM, AT, &store, 1, GALLUSPA_LAST, UINT64_MAX, &hit, &at);
+    return galluspa_past_hits(past, &at, AT, &store, 1, UINT64_MAX, hits, 1, count);
 }
 
 static int is_kept(const void *bytes, size_t size) {
@@ -82,7 +87,7 @@ static int answers(int which) {
     unsigned long made = calls;
     if (result && result != GALLUSPA_OUT_OF_MEMORY) fail("another answer");
     if (result && made < now) fail("no request was refused");
-    if (result && (count != 77 || !is_kept(&state, sizeof state) || !is_kept(slots, sizeof slots) || !is_kept(pages, sizeof pages) || !is_kept(sent, sizeof sent))) fail("something is written");
+    if (result && (count != 77 || !is_kept(&state, sizeof state) || !is_kept(slots, sizeof slots) || !is_kept(pages, sizeof pages) || !is_kept(sent, sizeof sent) || !is_kept(&hit, sizeof hit) || !is_kept(hits, sizeof hits))) fail("something is written");
     galluspa_past_extent(&past, &is);
     if (which > 1 && result && (is.end != was.end || is.inputs != was.inputs)) fail("the past is another");
     if (branch.is_open != (which == 6 && !result)) fail("a branch is open, or not");
@@ -99,7 +104,7 @@ static int answers(int which) {
 }
 
 int main(int argc, char **argv) {
-    static const char *name[] = {"open", "begin", "at", "near", "input", "run", "branch"};
+    static const char *name[] = {"open", "begin", "at", "near", "input", "run", "branch", "find", "hits"};
     galluspa_past past = {0};
     FILE *file = argc > 1 ? fopen(argv[1], "rb") : NULL;
     if (!file) return 9;
@@ -111,7 +116,7 @@ int main(int argc, char **argv) {
     memcpy(own_slots, slots, sizeof slots), memcpy(own_pages, pages, sizeof pages);
     galluspa_past_close(&past);
     if (blocks) return 9;
-    for (int which = 0; which < 7; which++) {
+    for (int which = 0; which < 9; which++) {
         for (refused = 1; answers(which);) refused++;
         printf("%s%s %lu", which ? ", " : "", name[which], refused - 1);
     }

@@ -7,9 +7,10 @@ import random
 from collections.abc import Sequence
 from pathlib import Path
 
-from tests.library.binding import NO_COUNT, WORDS, Input, Library, Past, State, Words
+from tests.library.binding import NO_COUNT, WORDS, Input, Library, Past, Sought, State, Words
 from tests.library.calls import inputs_and_last
 from tests.library.trial import EXAMPLES, FACE, PROGRAM, WARNINGS, expect, fail, run
+from tests.programs import randomly
 
 SPACING = 65_536
 # What a machine is at a count: its state and its words.
@@ -38,11 +39,14 @@ class Run:
             self.known[count] = bytes(state), bytes(words)
         return self.known[count]
 
+    def machine(self, count: int) -> tuple[State, Words]:
+        """Returns a machine of its own at a count."""
+        state, words = self.at(count)
+        return State.from_buffer_copy(state), (ctypes.c_uint32 * WORDS).from_buffer_copy(words)
+
     def sent(self, start: int, end: int) -> bytes:
         """Returns the bytes that the machine sends from one count up to another."""
-        state, words = self.at(start)
-        machine = State.from_buffer_copy(state), (ctypes.c_uint32 * WORDS).from_buffer_copy(words)
-        code, sent = self.library.advance(*machine, self.inputs, end, 1 << 16)
+        code, sent = self.library.advance(*self.machine(start), self.inputs, end, 1 << 16)
         expect(f"an advance from {start} to {end}", code, 0)
         return sent
 
@@ -247,6 +251,113 @@ def refuse_live_pasts(library: Library) -> None:
     library.close_past(past)
     expect("a branch of a past that is closed", library.branch_past(past, first, branch), 13)
     print("past: each refusal of a live machine leaves its past as it is")
+
+
+# Conditions of searches: some hold often, some rarely, some never; the last are joined.
+CONDITIONS: Sequence[Sequence[Sought]] = (
+    [(6, 0, 0, 0)], [(7, 0, 0, 10)], [(8, 0, 0, 4)], [(9, 0, 0, 0)], [(10, 3, 0, 0)], [(2, 0xE7F00, 0xFFFFF, 0)], [(1, 0, 1, 0)],
+    [(5, 0, 0, 0)], [(3, 0, 1 << 20, 0x01010101)], [], [(9, 0, 0, 0), (6, 0, 0, 0), (8, 0, 0, 6)],
+    [(1 | 1 << 31, 0, 1 << 22, 0), (11, 1, 0, 0, 1, 300)],
+)  # fmt: skip
+
+
+def find_in(library: Library, past: Past, start: int, end: int, conditions: Sequence[Sought], wanted: int, budget: int) -> tuple[int, object, int]:
+    """Searches a past until there is an answer: its result, the hit, and how often the budget was spent."""
+    spent = 0
+    while True:
+        keyframes = library.extent(past)[1].keyframes
+        code, hit, progress = library.find_in_past(past, start, end, conditions, wanted, budget)
+        if code != 12:
+            return code, hit, spent
+        expect("how far a search came", start <= progress <= end and progress != (start if wanted else end), True)
+        expect("progress of a search", progress != (end if wanted else start) or library.extent(past)[1].keyframes > keyframes, True)
+        start, end, spent = (start, progress, spent + 1) if wanted else (progress, end, spent + 1)
+
+
+def hits_in(library: Library, past: Past, start: int, end: int, conditions: Sequence[Sought], room: int, budget: int) -> tuple[list[tuple[int, int]], int]:
+    """Searches a past for all hits until they are all there: these, and how often the budget was spent."""
+    found: list[tuple[int, int]] = []
+    spent = 0
+    while True:
+        keyframes = library.extent(past)[1].keyframes
+        code, more, at = library.hits_in_past(past, start, end, conditions, room, budget)
+        found += more
+        if code == 12:
+            spent += 1
+            expect("progress of a search", start <= at < end and (at > start or library.extent(past)[1].keyframes > keyframes), True)
+        else:
+            expect("a search for all hits", code, 0)
+            expect("where it goes on", at, more[-1][0] + 1 if len(more) == room else end)
+            if at == end:
+                return found, spent
+        start = at
+
+
+def compare_search(library: Library, past: Past, own: Run, chance: random.Random, start: int, end: int) -> tuple[int, int]:
+    """Compares searches of a range with those of the machine at its first count. Returns how many hits there are, and how often the budget
+    was spent."""
+    conditions = chance.choice(CONDITIONS)
+    budgets = (1, 5, 1 << 40) if end - start <= 100 else ((end - start) // 5, SPACING, 1 << 40)
+    listed = spent = 0
+    for wanted in (0, 1):
+        code, hit, more = find_in(library, past, start, end, conditions, wanted, chance.choice(budgets))
+        here = library.find(*own.machine(start), own.inputs, end, conditions, wanted)
+        expect(f"{conditions} from {start} to {end}", (code, hit), here)
+        spent += more
+    near = min(end, start + 200_000)
+    found, more = hits_in(library, past, start, near, conditions, chance.choice((1 if near - start <= 100 else 999, 5_000)), chance.choice(budgets))
+    expect(f"all of {conditions} from {start} to {near}", (0, found), library.hits(*own.machine(start), own.inputs, near, conditions, 1 << 19))
+    listed += len(found)
+    return listed, spent + more
+
+
+def search_pasts(library: Library) -> None:
+    """What searches of a past find is what galluspa_find and galluspa_hits find, in any order, with any budget."""
+    past, chance, listed, spent = Past(), random.Random(11), 0, 0
+    programs = (run(PROGRAM, "record", "--disk", given=randomly.case(seed).session.text().encode())[0] for seed in range(6))
+    for text in (*recordings(), *programs):
+        own = Run(library, text)
+        expect("a past that is opened", library.open_past(past, text, SPACING), 0)
+        for _ in range(12):
+            start = chance.randint(0, own.end)
+            end = min(own.end, start + chance.choice((0, 1, 100, 3_000_000)))
+            hits, more = compare_search(library, past, own, chance, start, end)
+            listed, spent = listed + hits, spent + more
+    library.close_past(past)
+    if listed < 1000 or spent < 100:
+        fail(f"searches of pasts list {listed} hits, and {spent} times a budget was spent")
+    print(f"past: searches of twelve pasts find what galluspa_find and galluspa_hits find, {listed} hits; {spent} times a budget was spent")
+
+
+def refuse_past_searches(library: Library) -> None:
+    """Each refusal of a search of a past."""
+    own, past = Run(library, FACE), Past()
+    sends: list[Sought] = [(6, 0, 0, 0)]
+    expect("a closed past", [library.find_in_past(past, 0, 0, [], 2, 0)[0], library.hits_in_past(past, 0, 0, [], 0, 0)[0]], [13, 13])
+    expect("a past", library.begin_past(past, *own.machine(1_000_000), SPACING), 0)
+    expect("a run", library.run_past(past, 1_100_000)[0], 0)
+    before = bytes(library.extent(past)[1])
+    bad: list[tuple[int, int, Sequence[Sought], int]] = [
+        (999_999, 1_000_001, sends, 1), (1_000_005, 1_000_004, sends, 1), (1_000_000, 1_100_001, sends, 14), (1_100_001, 1_100_001, sends, 14),
+        (1_100_002, 1_100_001, sends, 1), (999_999, 1_100_001, sends, 1), (1_000_000, 1_000_001, sends * 65, 1),
+        (1_000_000, 1_100_001, [(0, 0, 1, 0)], 1), (1_000_000, 1_000_001, [(6 + (1 << 31), 0, 0, 0)], 1),
+        (1_000_000, 1_000_001, [(5, 18, 0, 0)], 1),
+    ]  # fmt: skip
+    for start, end, conditions, code in bad:
+        codes = [library.find_in_past(past, start, end, conditions, wanted)[0] for wanted in (0, 1)]
+        codes.append(library.hits_in_past(past, start, end, conditions, 1)[0])
+        expect(f"a search of {conditions} from {start} to {end}", codes, [code] * 3)
+    here, there = 1_000_000, 1_000_001
+    expect("a budget of 0", [library.find_in_past(past, here, there, sends, it, 0)[0] for it in (0, 1)], [1, 1])
+    expect("a budget of 0 for all hits", library.hits_in_past(past, here, there, sends, 1, 0)[0], 1)
+    expect("another hit than the first or the last", library.find_in_past(past, here, there, sends, 2)[0], 1)
+    expect("room for no hit", library.hits_in_past(past, here, there, sends, 0)[0], 1)
+    expect("a past that is refused searches", bytes(library.extent(past)[1]), before)
+    for at in (1_000_000, 1_100_000):
+        expect("an empty range", [library.find_in_past(past, at, at, sends, it)[0] for it in (0, 1)], [11, 11])
+        expect("all hits of an empty range", library.hits_in_past(past, at, at, sends, 1), (0, [], at))
+    library.close_past(past)
+    print("past: each refusal of a search")
 
 
 def begin_pasts(library: Library) -> None:

@@ -33,6 +33,8 @@ TRIALS: Sequence[Callable[[Library], None]] = (
     pasts.refuse_pasts,
     pasts.run_live_pasts,
     pasts.refuse_live_pasts,
+    pasts.search_pasts,
+    pasts.refuse_past_searches,
     calls.call_together,
     calls.read_together,
     calls.read_longest,

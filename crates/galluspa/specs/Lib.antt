@@ -12,5 +12,6 @@ pub mod Records
 pub mod Calls
 pub mod Past
 pub mod Live
+pub mod Searches
 pub mod Laws
 pub mod inner

@@ -116,7 +116,8 @@ fn search_all(
     Ok(hits)
 }
 
-fn raw_hit(hit: &Hit) -> RawHit
+/// Returns a hit in the layout of C.
+pub(crate) fn raw_hit(hit: &Hit) -> RawHit
     ensures { hit_of result ≡ hit.now }
 {
     RawHit {
@@ -126,7 +127,7 @@ fn raw_hit(hit: &Hit) -> RawHit
 }
 
 /// Writes hits to the front of `out`, which has room for them. What is after them stays as it was.
-fn write_hits(hits: &[Hit], out: &mut [RawHit])
+pub(crate) fn write_hits(hits: &[Hit], out: &mut [RawHit])
     requires { length hits.now ≤ length out.old }
     ensures front { map hit_of (take (length hits.now) out.new) ≡ hits.now }
     ensures rest { drop (length hits.now) out.new ≡ drop (length hits.now) out.old }

@@ -36,12 +36,15 @@ mod loose;
 mod moments;
 mod near;
 mod past;
+mod past_find;
+mod past_hits;
 mod profile;
 mod raw;
 mod records;
 mod refusal;
 mod run;
 mod sealed;
+mod searching;
 mod words;
 
 pub use advance::galluspa_advance;
@@ -63,6 +66,8 @@ pub use near::galluspa_past_near;
 pub use past::{
     RawExtent, galluspa_past_begin, galluspa_past_close, galluspa_past_extent, galluspa_past_open,
 };
+pub use past_find::galluspa_past_find;
+pub use past_hits::galluspa_past_hits;
 pub use profile::galluspa_profile;
 pub use raw::{RawInput, RawState};
 pub use records::{RawRecord, galluspa_records};
