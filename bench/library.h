@@ -1,4 +1,4 @@
-/* What counted.c, find.c and frames.c share: the initial state of a recording in the memory that the library's calls take, and the processor's clock. */
+/* What counted.c, find.c, frames.c and past.c share: the initial state of a recording in the memory that the library's calls take, and the processor's clock. */
 #include "galluspa.h"
 #include <stdio.h>
 #include <stdlib.h>
@@ -15,8 +15,8 @@ static double seconds(void) {
     return (double)now.tv_sec + 1e-9 * (double)now.tv_nsec;
 }
 
-/* Puts the initial state of the recording in a file into `state` and `words`. */
-static void begin(const char *path) {
+/* Puts the initial state of the recording in a file into `state` and `words`. Returns the length of the file, which is in `text`. */
+static size_t begin(const char *path) {
     FILE *file = fopen(path, "rb");
     if (!file) { perror(path); exit(3); }
     size_t length = fread(text, 1, sizeof text, file);
@@ -25,4 +25,5 @@ static void begin(const char *path) {
         fprintf(stderr, "%s has no initial state\n", path);
         exit(2);
     }
+    return length;
 }
