@@ -213,6 +213,7 @@ def compare_header(folder: Path) -> list[str]:
         ("uint16_t slots[1024]", "uint32_t slots[1024]"),
         ("uint16_t slots[1024]", "uint16_t slots[1023]"),
         ("galluspa_past *past, uint64_t at, uint64_t from", "galluspa_past *past, uint64_t at, uint32_t from"),
+        ("galluspa_past *branch);", "const galluspa_past *branch);"),
         ("GALLUSPA_AND 0x80000000u", "GALLUSPA_AND 0x40000000u"),
         ("uint32_t wanted,\n                      galluspa_hit *hit", "galluspa_hit *hit,\n                      uint32_t wanted"),
         (

@@ -1,4 +1,4 @@
-"""The past of a run, against `galluspa_advance`: counts in any order, from any other, with any budget; live machines; each refusal."""
+"""The past of a run, against `galluspa_advance`: counts in any order, with any budget; live machines; searches; each refusal."""
 
 import copy
 import ctypes
@@ -261,7 +261,9 @@ CONDITIONS: Sequence[Sequence[Sought]] = (
 )  # fmt: skip
 
 
-def find_in(library: Library, past: Past, start: int, end: int, conditions: Sequence[Sought], wanted: int, budget: int) -> tuple[int, object, int]:
+def find_in(
+    library: Library, past: Past, start: int, end: int, conditions: Sequence[Sought], wanted: int, budget: int
+) -> tuple[int, object, int]:
     """Searches a past until there is an answer: its result, the hit, and how often the budget was spent."""
     spent = 0
     while True:
@@ -270,11 +272,14 @@ def find_in(library: Library, past: Past, start: int, end: int, conditions: Sequ
         if code != 12:
             return code, hit, spent
         expect("how far a search came", start <= progress <= end and progress != (start if wanted else end), True)
-        expect("progress of a search", progress != (end if wanted else start) or library.extent(past)[1].keyframes > keyframes, True)
+        moved = progress != (end if wanted else start)
+        expect("progress of a search", moved or library.extent(past)[1].keyframes > keyframes, True)
         start, end, spent = (start, progress, spent + 1) if wanted else (progress, end, spent + 1)
 
 
-def hits_in(library: Library, past: Past, start: int, end: int, conditions: Sequence[Sought], room: int, budget: int) -> tuple[list[tuple[int, int]], int]:
+def hits_in(
+    library: Library, past: Past, start: int, end: int, conditions: Sequence[Sought], room: int, budget: int
+) -> tuple[list[tuple[int, int]], int]:
     """Searches a past for all hits until they are all there: these, and how often the budget was spent."""
     found: list[tuple[int, int]] = []
     spent = 0
@@ -284,7 +289,8 @@ def hits_in(library: Library, past: Past, start: int, end: int, conditions: Sequ
         found += more
         if code == 12:
             spent += 1
-            expect("progress of a search", start <= at < end and (at > start or library.extent(past)[1].keyframes > keyframes), True)
+            moved = at > start or library.extent(past)[1].keyframes > keyframes
+            expect("progress of a search", start <= at < end and moved, True)
         else:
             expect("a search for all hits", code, 0)
             expect("where it goes on", at, more[-1][0] + 1 if len(more) == room else end)
@@ -294,8 +300,8 @@ def hits_in(library: Library, past: Past, start: int, end: int, conditions: Sequ
 
 
 def compare_search(library: Library, past: Past, own: Run, chance: random.Random, start: int, end: int) -> tuple[int, int]:
-    """Compares searches of a range with those of the machine at its first count. Returns how many hits there are, and how often the budget
-    was spent."""
+    """Compares searches of a range with those of the machine at its first count. Returns how many hits there are, and how often the
+    budget was spent."""
     conditions = chance.choice(CONDITIONS)
     budgets = (1, 5, 1 << 40) if end - start <= 100 else ((end - start) // 5, SPACING, 1 << 40)
     listed = spent = 0
@@ -305,8 +311,14 @@ def compare_search(library: Library, past: Past, own: Run, chance: random.Random
         expect(f"{conditions} from {start} to {end}", (code, hit), here)
         spent += more
     near = min(end, start + 200_000)
-    found, more = hits_in(library, past, start, near, conditions, chance.choice((1 if near - start <= 100 else 999, 5_000)), chance.choice(budgets))
-    expect(f"all of {conditions} from {start} to {near}", (0, found), library.hits(*own.machine(start), own.inputs, near, conditions, 1 << 19))
+    found, more = hits_in(
+        library, past, start, near, conditions, chance.choice((1 if near - start <= 100 else 999, 5_000)), chance.choice(budgets)
+    )
+    expect(
+        f"all of {conditions} from {start} to {near}",
+        (0, found),
+        library.hits(*own.machine(start), own.inputs, near, conditions, 1 << 19),
+    )
     listed += len(found)
     return listed, spent + more
 
@@ -326,20 +338,25 @@ def search_pasts(library: Library) -> None:
     library.close_past(past)
     if listed < 1000 or spent < 100:
         fail(f"searches of pasts list {listed} hits, and {spent} times a budget was spent")
-    print(f"past: searches of twelve pasts find what galluspa_find and galluspa_hits find, {listed} hits; {spent} times a budget was spent")
+    print(
+        f"past: searches of twelve pasts find what galluspa_find and galluspa_hits find, {listed} hits; {spent} budgets were spent"
+    )
 
 
 def refuse_past_searches(library: Library) -> None:
     """Each refusal of a search of a past."""
     own, past = Run(library, FACE), Past()
     sends: list[Sought] = [(6, 0, 0, 0)]
-    expect("a closed past", [library.find_in_past(past, 0, 0, [], 2, 0)[0], library.hits_in_past(past, 0, 0, [], 0, 0)[0]], [13, 13])
+    expect(
+        "a closed past", [library.find_in_past(past, 0, 0, [], 2, 0)[0], library.hits_in_past(past, 0, 0, [], 0, 0)[0]], [13, 13]
+    )
     expect("a past", library.begin_past(past, *own.machine(1_000_000), SPACING), 0)
     expect("a run", library.run_past(past, 1_100_000)[0], 0)
     before = bytes(library.extent(past)[1])
     bad: list[tuple[int, int, Sequence[Sought], int]] = [
-        (999_999, 1_000_001, sends, 1), (1_000_005, 1_000_004, sends, 1), (1_000_000, 1_100_001, sends, 14), (1_100_001, 1_100_001, sends, 14),
-        (1_100_002, 1_100_001, sends, 1), (999_999, 1_100_001, sends, 1), (1_000_000, 1_000_001, sends * 65, 1),
+        (999_999, 1_000_001, sends, 1), (1_000_005, 1_000_004, sends, 1), (1_000_000, 1_100_001, sends, 14),
+        (1_100_001, 1_100_001, sends, 14), (1_100_002, 1_100_001, sends, 1), (999_999, 1_100_001, sends, 1),
+        (1_000_000, 1_000_001, sends * 65, 1),
         (1_000_000, 1_100_001, [(0, 0, 1, 0)], 1), (1_000_000, 1_000_001, [(6 + (1 << 31), 0, 0, 0)], 1),
         (1_000_000, 1_000_001, [(5, 18, 0, 0)], 1),
     ]  # fmt: skip

@@ -30,7 +30,7 @@ pub record Holds (Is : PastParts → Type 0) (handle : RawPast) : Type 0 where
 abbrev pub Keeps : RawPast → RawPast → Type 0
 Keeps old new = new.sealed.past ≡ old.sealed.past
 
--- before a call and after it a past is open, and the two are related so
+-- a past is open before a call, and one after it, in the same handle or in another, and the two are related so
 pub record HoldsBoth (Are : PastParts → PastParts → Type 0) (old new : RawPast) : Type 0 where
   pub before : PastParts
   pub after : PastParts

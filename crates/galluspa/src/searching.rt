@@ -1,5 +1,5 @@
 //! What a search of a past is asked, in the memory of a caller.
-ghost use Rattle.std.specs.Prelude.{◌≡◌, ◌≤◌, ◌<◌, IfErr, OnOk, length};
+ghost use Rattle.std.specs.Prelude.{◌≡◌, ◌≢◌, ◌≤◌, ◌<◌, IfErr, OnOk, length};
 ghost use Rattle.oberon_past.specs.Search.{IsRange};
 ghost use Rattle.galluspa.specs.Searches.{IsSearch};
 ghost use Rattle.galluspa.specs.inner.Searching.{IsUnsearched};
@@ -43,6 +43,7 @@ pub(crate) fn budget_of(
     ensures search { OnOk result (IsSearch conditions.now from to budget) }
     ensures range { OnOk result (IsRange past.now.run past.now.end from to) }
     ensures refused { IfErr result (IsUnsearched past.now conditions.now from to budget) }
+    ensures no_memory { IfErr result (λ refusal. refusal ≢ Unsearched.Memory) }
 {
     let extent = past.extent();
     if from < extent.first || to < from || conditions.len() > MAX_CONDITIONS {
