@@ -50,9 +50,8 @@ pub extern "C" fn galluspa_past_branch(
             branch.put(made);
             DONE
         }
-        Err(PastFault::Earlier) => OUT_OF_RANGE,
         Err(PastFault::Later) => LATER,
         Err(PastFault::Memory) => OUT_OF_MEMORY,
-        Err(PastFault::Order) => unreachable!(),
+        Err(_) => OUT_OF_RANGE,
     }
 }

@@ -29,8 +29,7 @@ pub extern "C" fn galluspa_past_cut(alloc: Global, past: &mut RawPast, at: u64) 
     past.put(here);
     match cut {
         Ok(()) => DONE,
-        Err(PastFault::Earlier) => OUT_OF_RANGE,
         Err(PastFault::Later) => LATER,
-        Err(_) => unreachable!(),
+        Err(_) => OUT_OF_RANGE,
     }
 }

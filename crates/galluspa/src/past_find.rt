@@ -114,7 +114,7 @@ pub extern "C" fn galluspa_past_find(
             *progress = at;
             MORE
         }
-        Ok(Found::OutOfRange(_)) => unreachable!(),
+        Ok(Found::OutOfRange(_)) => OUT_OF_RANGE,
         Err(Unsearched::Range) => OUT_OF_RANGE,
         Err(Unsearched::Later) => LATER,
         Err(Unsearched::Memory) => OUT_OF_MEMORY,

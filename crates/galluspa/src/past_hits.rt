@@ -117,7 +117,7 @@ pub extern "C" fn galluspa_past_hits(
             write_found(&found, from, hits, hits_count);
             MORE
         }
-        Ok(AllFound::OutOfRange(_)) => unreachable!(),
+        Ok(AllFound::OutOfRange(_)) => OUT_OF_RANGE,
         Err(Unsearched::Range) => OUT_OF_RANGE,
         Err(Unsearched::Later) => LATER,
         Err(Unsearched::Memory) => OUT_OF_MEMORY,
