@@ -1,6 +1,7 @@
-//! Sessions that are made of their parts, what their faults are called, the past of a machine that runs on, and searches and
-//! traces of a past.
+//! Sessions that are made of their parts, what their faults are called, the past of a machine that runs on, and searches,
+//! traces, profiles and calls of a past.
 
+mod calls;
 mod disk;
 mod faults;
 mod parts;

@@ -3,13 +3,16 @@
 ghost use Rattle.std.specs.Prelude.{◌-◌, ◌<◌, ◌^◌};
 
 use crate::tests::searches::past;
-use oberon_past::{OutOfRange, Past, Record, Recorded, Steps};
+use oberon_past::{OutOfRange, Past, Profiled, Record, Recorded, Steps};
+use risc_pages::MEMORY_WORDS;
 use risc_search::{Access, Accessed, Effect};
 use std::alloc::Global;
 
 /// The three instructions that the run repeats: ADD R0, R0, 1; STW R0 to address 1000H; a branch back.
 const ADD: u32 = 0x4008_0001;
+
 const STORE: u32 = 0xA010_1000;
+
 const BRANCH: u32 = 0xE7FF_FFFD;
 
 /// Returns what the instruction of a count does, and R0 before it.
@@ -87,6 +90,58 @@ fn is_refused(alloc: Global, past: &mut Past, range: (u64, u64), fault: OutOfRan
     match past.records(alloc, range.0, range.1, 1, budget) {
         Ok(Recorded::OutOfRange(refused)) => refused == fault,
         _ => false,
+    }
+}
+
+/// How often the words 0, 1 and 2 were executed, and left by a branch.
+#[derive(Clone, Copy, PartialEq)]
+struct Counted {
+    visits: [u64; 3],
+    departures: [u64; 3],
+}
+
+/// Profiles the counts of a range, and returns the numbers of the first words. Asks as often as that takes.
+fn profiled(alloc: Global, past: &mut Past, from: u64, to: u64) -> Option<Counted> {
+    let budget = Steps::new(5)?;
+    let mut visits = vec![in alloc; 0u64; MEMORY_WORDS as usize].ok()?;
+    let mut departures = vec![in alloc; 0u64; MEMORY_WORDS as usize].ok()?;
+    let mut from = from;
+    for _turn in 0..1_000u32 {
+        if visits.len() != MEMORY_WORDS as usize || departures.len() != MEMORY_WORDS as usize {
+            return None;
+        }
+        match past.profile(alloc, from, to, &mut visits, &mut departures, budget) {
+            Ok(Profiled::Done) => {
+                return Some(Counted {
+                    visits: [visits[0], visits[1], visits[2]],
+                    departures: [departures[0], departures[1], departures[2]],
+                });
+            }
+            Ok(Profiled::More(next)) => from = next,
+            _ => return None,
+        }
+    }
+    None
+}
+
+#[test]
+fn counts_each_word(rt: HostRuntime) {
+    let alloc = rt.alloc();
+    let all = Counted {
+        visits: [34, 33, 33],
+        departures: [0, 0, 33],
+    };
+    let part = Counted {
+        visits: [1, 2, 1],
+        departures: [0, 0, 1],
+    };
+    match past(alloc) {
+        Some(mut past) => {
+            assert!(rt; profiled(alloc, &mut past, 0, 100) == Some(all), "all");
+            assert!(rt; profiled(alloc, &mut past, 22, 26) == Some(part), "part");
+            assert!(rt; profiled(alloc, &mut past, 0, 101).is_none(), "later");
+        }
+        None => panic!(rt; "no past"),
     }
 }
 
