@@ -15,7 +15,8 @@
  * A function that writes an answer writes it to the front of the buffer, and leaves the bytes after it as they were. A call that is
  * refused writes nothing. There are four exceptions, each said where its function is declared: *out_count and *changed_count at
  * GALLUSPA_NO_ROOM, the two counts of galluspa_claims then, the records of galluspa_records at GALLUSPA_OUT_OF_MEMORY, and a
- * galluspa_past, which a refused galluspa_past_open, galluspa_past_begin or galluspa_past_branch closes.
+ * galluspa_past, which a refused galluspa_past_open, galluspa_past_begin or galluspa_past_branch closes. GALLUSPA_MORE, and
+ * GALLUSPA_NO_ROOM of galluspa_past_run, refuse nothing: the call did a part, and writes what its declaration says.
  *
  * A recording and a session are bytes in the formats of docs/formats.md. docs/from-c.md is a walk through this header. */
 #ifndef GALLUSPA_H
