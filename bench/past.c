@@ -65,8 +65,12 @@ static double frame_of_past(void) {
     size_t count;
     expect("begin", galluspa_past_begin(&past, &state, words, GALLUSPA_WORDS, 0), GALLUSPA_DONE);
     double start = seconds();
-    for (uint64_t to = state.count + FRAME, end = state.count + FRAMES * FRAME; to <= end; to += FRAME)
-        expect("run", galluspa_past_run(&past, to, UINT64_MAX, sent, sizeof sent, &count), GALLUSPA_DONE);
+    for (uint64_t to = state.count + FRAME, end = state.count + FRAMES * FRAME; to <= end; to += FRAME) {
+        uint8_t answer;
+        do answer = galluspa_past_run(&past, to, UINT64_MAX, sent, sizeof sent, &count);
+        while (answer == GALLUSPA_MORE); /* at a keyframe */
+        expect("run", answer, GALLUSPA_DONE);
+    }
     return since(start) / FRAMES;
 }
 

@@ -447,10 +447,10 @@ uint8_t galluspa_past_input(galluspa_past *past, const galluspa_input *inputs, s
  * loops that are passed over too; if keyframes up to the old end have to be made first, it may do as many for these, and some three
  * spacings beside them.
  *
- * Returns GALLUSPA_DONE; GALLUSPA_MORE if the budget is spent, and GALLUSPA_NO_ROOM before an instruction that sends a byte for which
- * there is no room. With either of them the end is the count that the run came to, the bytes up to it are written, and a call with the
- * same numbers goes on from there. Or GALLUSPA_OUT_OF_RANGE if budget is 0 or to is below the end, GALLUSPA_CLOSED, or
- * GALLUSPA_OUT_OF_MEMORY: then nothing is written, and the end stays. */
+ * Returns GALLUSPA_DONE; GALLUSPA_MORE if the budget is spent, or at the count of the next keyframe, which it adds; and
+ * GALLUSPA_NO_ROOM before an instruction that sends a byte for which there is no room. With either of them the end is the count that
+ * the run came to, the bytes up to it are written, and a call with the same numbers goes on from there. Or GALLUSPA_OUT_OF_RANGE if
+ * budget is 0 or to is below the end, GALLUSPA_CLOSED, or GALLUSPA_OUT_OF_MEMORY: then nothing is written, and the end stays. */
 uint8_t galluspa_past_run(galluspa_past *past, uint64_t to, uint64_t budget, uint8_t *sent, size_t sent_len, size_t *sent_count);
 
 /* Drops what comes after the count at, which becomes the end: the inputs from this count on, and the keyframes after it. A live machine

@@ -387,6 +387,12 @@ class Library:
             fail("a run of a past writes something else than its bytes")
         return code, sent.raw[:number]
 
+    def run_past_through(self, past: Past, to: int) -> int:
+        """Returns the result of running a past on to a count, in as many calls as that takes."""
+        while (code := self.run_past(past, to)[0]) == 12:
+            pass
+        return code
+
     def cut_past(self, past: Past, at: int) -> int:
         """Returns the result of dropping what comes after a count of a past."""
         code: int = self.c.galluspa_past_cut(ctypes.byref(past), ctypes.c_uint64(at))

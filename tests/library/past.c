@@ -60,7 +60,10 @@ static uint8_t call(int which, galluspa_past *past, size_t *count) {
     if (which == 2) return galluspa_past_at(past, AT, FROM, UINT64_MAX, &state, slots, pages, 1024, count);
     if (which == 3) return galluspa_past_near(past, AT, GALLUSPA_NO_COUNT, &state, slots, pages, 1024, count);
     if (which == 4) return galluspa_past_input(past, inputs, 2);
-    if (which == 5) return galluspa_past_run(past, extent.end + FURTHER, UINT64_MAX, sent, sizeof sent, count);
+    if (which == 5) {
+        uint8_t code = galluspa_past_run(past, extent.end + FURTHER, UINT64_MAX, sent, sizeof sent, count);
+        return code == GALLUSPA_MORE ? GALLUSPA_DONE : code; /* it ends at a keyframe, too */
+    }
     if (which == 6) return galluspa_past_branch(past, AT, &branch);
     if (which == 7) return galluspa_past_find(past, FROM, AT, &store, 1, GALLUSPA_LAST, UINT64_MAX, &hit, &at);
     return galluspa_past_hits(past, &at, AT, &store, 1, UINT64_MAX, hits, 1, count);

@@ -228,7 +228,7 @@ def refuse_live_pasts(library: Library) -> None:
     expect("calls with a past that is closed", results(), [13] * 6)
     expect("a past", library.begin_past(past, state, words, SPACING), 0)
     expect("inputs", library.input_past(past, [Input(first, 4, 28), Input(end + 5, 4, 240)]), 0)
-    expect("a run", library.run_past(past, end)[0], 0)
+    expect("a run", library.run_past_through(past, end), 0)
     before = bytes(library.extent(past)[1])
     bad = [
         [(end - 1, 4, 1)], [(end + 4, 4, 1)], [(end + 9, 4, 1), (end + 8, 4, 1)], [((1 << 40) + 1, 4, 1)], [(end + 9, 0, 1)],
@@ -351,7 +351,7 @@ def refuse_past_searches(library: Library) -> None:
         "a closed past", [library.find_in_past(past, 0, 0, [], 2, 0)[0], library.hits_in_past(past, 0, 0, [], 0, 0)[0]], [13, 13]
     )
     expect("a past", library.begin_past(past, *own.machine(1_000_000), SPACING), 0)
-    expect("a run", library.run_past(past, 1_100_000)[0], 0)
+    expect("a run", library.run_past_through(past, 1_100_000), 0)
     before = bytes(library.extent(past)[1])
     bad: list[tuple[int, int, Sequence[Sought], int]] = [
         (999_999, 1_000_001, sends, 1), (1_000_005, 1_000_004, sends, 1), (1_000_000, 1_100_001, sends, 14),

@@ -47,8 +47,8 @@ fn run_past(
 /// the way are written to the front of `sent`, and their number to `sent_count`.
 ///
 /// It may end before `to`, and then the end is the count that it reached, and the bytes up to it are written: the result is 12
-/// (`MORE`) if it did `budget` instructions, and 2 (`NO_ROOM`) if the next instruction sends a byte for which there is no room. A
-/// call with the same numbers goes on from there.
+/// (`MORE`) if it did `budget` instructions or came to the next keyframe, which it adds, and 2 (`NO_ROOM`) if the next instruction
+/// sends a byte for which there is no room. A call with the same numbers goes on from there.
 ///
 /// Otherwise nothing is written, and the end stays. The result is 13 (`CLOSED`) if no past is open, 1 (`OUT_OF_RANGE`) if the budget
 /// is 0 or `to` is below the end, and 3 (`OUT_OF_MEMORY`) if memory ran out.
