@@ -21,6 +21,7 @@ from galluspa.engine.library import Library
 from galluspa.engine.program import Program
 from galluspa.engine.tracing import Run
 from galluspa.formats.recording import Checkpoint, Event, Recording, page_of, read, table_of, write
+from galluspa.process.cli import Refused
 
 TOP = Path(__file__).resolve().parents[2]
 TOOLS = TOP / "tools"
@@ -222,6 +223,13 @@ class ToolTest(unittest.TestCase):
         after = resource.getrusage(resource.RUSAGE_CHILDREN)
         self.assertLess(after.ru_utime + after.ru_stime - before.ru_utime - before.ru_stime - spent, AT_ONCE)
         return Ran(output or b"", (errors or b"").decode(), begun.returncode)
+
+    def assert_raises(self, call: Callable[[], object], told: str) -> None:
+        """A call is refused, in one line that has these words."""
+        with self.assertRaises(Refused) as refused:
+            call()
+        self.assertIn(told, str(refused.exception))
+        self.assertTrue(str(refused.exception).isprintable())
 
     def assert_refused(self, ran: Ran, *told: str) -> None:
         """A command printed nothing, told what is wrong in one line, and ended with status 2."""

@@ -12,11 +12,12 @@ from galluspa.analysis.timeline import Timeline
 from galluspa.engine import following
 from galluspa.engine.following import EACH_RISE, Call
 from galluspa.engine.tracing import Run, Step
+from galluspa.interface import Recording
 from galluspa.process.cli import Refused
 from tests.programs import randomly, waiting
 from tests.tools import naivecalls
-from tests.tools.samples import JUMP, ToolTest, record, session, tool
-from tests.tools.samples import run_of
+from tests.tools.samples import JUMP, ToolTest, record, run_of, session, tool
+from tests.tools.test_rerun import script
 
 # A main program and another one take turns, each on a stack of its own: Switch swaps SP and the return address. Other's stack is above.
 COROUTINES = """
@@ -96,6 +97,7 @@ class CallsTest(ToolTest):
         count = max(enumerate(more), key=itemgetter(1))[0]
         self.assertEqual((len(limited[count]), len(each_rise[count])), (3, 1))
         option = ("--stack-limit", "0x1000")
+        waits = self.file("it.rerun.json", script({"key": "a"}, {"look": "it"}, patience=count))
         for options, wanted in (((), each_rise[count]), (option, limited[count])):
             counts = [call.count for call in reversed(wanted)]
             traced = json.loads(tool("trace", path, "--from", count, "--steps", 1, "--calls", "--json", *options).output)
@@ -103,6 +105,11 @@ class CallsTest(ToolTest):
             lines = tool("debug", path, "--batch", "-ex", f"at {count}", "-ex", "bt", *options).output.decode().splitlines()
             frames = [int(it.rpartition(" at ")[2]) for it in lines if it.startswith("#")]
             self.assertEqual(frames, [count, *counts])
+            told = tool("rerun", waits, "--image", path, *options).output.decode()
+            self.assertEqual(told.partition(f"; at {count:,} by ")[2].splitlines()[0].count(" < "), len(counts), told)
+        calls = Recording.open(path).machine(count).calls
+        self.assertEqual([len(calls(*limit)) for limit in ((), (0x1000,), ())], [1, 3, 1])
+        self.assertRaises(ValueError, calls, -1)
 
     def test_full_rooms_are_gone_on_from(self) -> None:
         text = self.assembled(ENDLESS).read_bytes()

@@ -106,16 +106,12 @@ class CompareTraceTest(ToolTest):
             for column, row in (("count", f"{text},0"), ("R1", f"0,{text}")):
                 self.assert_refused(self.compared(f"count,R1\n{row}\n"), f"{column}: '", "is not a number")
 
-    def test_the_first_line_that_differs_is_shown_with_who_wrote_the_operands(self) -> None:
+    def test_the_first_line_that_differs_is_shown_with_who_wrote_the_operands_and_names(self) -> None:
         wrong = [list(row) for row in ROWS]
         wrong[5][5] = 77
         ran = self.compared(csv(NAMES, wrong))
         self.assertEqual((ran.output.decode(), ran.errors, ran.status), (DIFFERS, "", 1))
-
-    def test_names_are_shown(self) -> None:
         self.file("it.sym", "00000000 t Main\n00000190 d Sum\n")
-        wrong = [list(row) for row in ROWS]
-        wrong[5][5] = 77
         ran = self.compared(csv(NAMES, wrong))
         self.assertIn("; Main + 0xC, stores to Sum", ran.output.decode())
         self.assertIn("2 names from", ran.errors)

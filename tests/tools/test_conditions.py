@@ -21,9 +21,7 @@ from galluspa.output.traceformats import JsonLines
 from galluspa.process.cli import Refused
 from tests.tools.samples import JUMP, ToolTest, record, run_of, session, tool
 from tests.tools.test_find import COUNTING
-
-# R1 := -56; R2 := 10; R2 := R2 - 1 until it is 0; R0 := 65 is sent and stored at 400; a jump to itself.
-SENDING = (0x5100FFC8, 0x4200000A, 0x42290001, 0xE93FFFFE, 0x40000041, 0xA0100000, 0xA0200190, JUMP)
+from tests.tools.test_trace import SENDING
 
 
 def accessed(step: Step) -> tuple[range, bool]:

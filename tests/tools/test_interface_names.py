@@ -5,7 +5,7 @@ import json
 import os
 import sys
 import warnings
-from collections.abc import Callable, Iterator
+from collections.abc import Callable
 from functools import partial
 from itertools import pairwise
 from typing import Any
@@ -17,6 +17,7 @@ from galluspa import interface
 from galluspa.formats.instructions import mnemonic
 from galluspa.formats.recording import KINDS, read
 from galluspa.process.version import number
+from tests.tools import naivecalls
 from tests.tools.samples import EXAMPLES, GALLUSPA, STORED, TOOLS, TOP, ToolTest, record, rejoining, run, tool
 
 # A procedure that calls another and itself: R0 falls to 0, and each call pushes its return address.
@@ -111,13 +112,6 @@ class NamesTest(ToolTest):
         ):
             self.assert_raises(call, told)
 
-    def assert_raises(self, call: Callable[[], object], told: str) -> None:
-        """A call is refused, in one line that has these words."""
-        with self.assertRaises(galluspa.Refused) as refused:
-            call()
-        self.assertIn(told, str(refused.exception))
-        self.assertEqual(len(str(refused.exception).splitlines()), 1)
-
     def test_words_data_and_registers(self) -> None:
         machine = galluspa.Recording.open(self.path).machine(60)
         memory, registers = machine.memory(), machine.state.registers
@@ -137,22 +131,11 @@ class NamesTest(ToolTest):
         with self.assertRaisesRegex(ValueError, "^length 9 is not in 0..8"):
             machine.data((1 << 20) - 8, 9)
 
-    def naive_calls(self) -> Iterator[list[int]]:
-        """Yields the counts of the calls that are open at each count, the innermost first, by a stack that is kept beside the run."""
-        calls: list[tuple[int, int, int]] = []
-        yield []
-        for step in galluspa.Recording.open(self.path).machine().steps(150):
-            back, to, stack = step.before.pc + 1, step.after.pc, step.before.registers[14]
-            if step.word is not None and step.word >> 28 == 15:
-                calls.append((step.before.count, back, stack))
-            elif calls and to != back and (to, stack) == calls[-1][1:]:
-                calls.pop()
-            yield [count for count, _, _ in reversed(calls)]
-
     def test_open_calls_are_those_of_a_stack(self) -> None:
         opened = galluspa.Recording.open(self.path)
         on_the_way, deepest = opened.machine(), 0
-        for count, expected in enumerate(self.naive_calls()):
+        for count, stack in enumerate(naivecalls.stacks(list(opened.machine().steps(150)))):
+            expected = [it.count for it in reversed(stack)]
             on_the_way.advance(count)
             for machine in (on_the_way, opened.machine(count)) if count % 10 == 0 else (on_the_way,):
                 self.assertEqual([it.count for it in machine.calls()], expected, count)

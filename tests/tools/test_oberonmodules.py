@@ -138,10 +138,7 @@ class ModulesTest(ToolTest):
             (changed("", (commands + 8, b"\xff" * 4)), "outside of its code"),
             (cut + b"Abc\0", "leads to 100000 (hexadecimal), beyond the memory"),
         ):
-            with self.assertRaises(Refused) as caught:
-                list(modules_of(memory))
-            self.assertIn(told, str(caught.exception))
-            self.assertTrue(str(caught.exception).isprintable())
+            self.assert_raises(lambda: list(modules_of(memory)), told)
 
     def test_lists_that_are_too_long_end(self) -> None:
         loader = Loader()

@@ -8,6 +8,7 @@ from pathlib import Path
 from xml.etree import ElementTree
 
 from tests.tools.samples import EXAMPLES, STORED, TOOLS, TOP, Ran, ToolTest, group, rejoining, run, tool
+from tests.tools.test_calls import COROUTINES
 from tests.tools.test_rerun import ECHO, LONGER, script
 
 TEST = """
@@ -119,7 +120,17 @@ class PluginTest(ToolTest):
         self.file("tests/it.rerun.json", script({"look": "it"}, image="none.json"))
         self.assert_ends(self.pytest(), 1, "E   none.json: no such file, which the script names as its image")
         self.assert_ends(self.pytest("--galluspa-image", "nothing.json"), 1, "nothing.json: No such file")
-        self.assert_ends(self.pytest("-o", "galluspa_limit=soon"), 1, "galluspa_limit is soon: expected a number of seconds")
+        self.assert_ends(self.pytest("-o", "galluspa_limit=soon"), 1, "galluspa_limit is soon: expected a whole number from 1 to")
+        self.assert_ends(
+            self.pytest("-o", "galluspa_stack_limit=-1"), 1, "galluspa_stack_limit is -1: expected a whole number from 0 to"
+        )
+
+    def test_the_stacks_of_coroutines_have_a_limit_between_them(self) -> None:
+        self.image(COROUTINES)
+        self.script("a", patience=13)
+        self.file("tests/test_it.py", "def test_it(oberon):\n    assert len(oberon('image.json').after(13).calls()) == 3\n")
+        self.assert_ends(self.pytest(), 1, "assert 1 == 3")
+        self.assertEqual(self.assert_ends(self.pytest("-o", "galluspa_stack_limit=0x1000"), 1, "1 passed").count(" < "), 3)
 
     def test_a_missing_library_is_a_line_of_each_test(self) -> None:
         self.script("a")

@@ -6,6 +6,11 @@ from tests.tools.test_recipes import SECONDS, RecipesTest, recipe
 
 
 class MakeTest(RecipesTest):
+    def setUp(self) -> None:
+        super().setUp()
+        self.want("make")
+        self.file("Makefile", recipe("make"))
+
     def make(self) -> Ran:
         """Runs the recipe."""
         return run(["make", "-j", "4"], cwd=self.folder, env=self.environment(), timeout=SECONDS)
@@ -17,8 +22,6 @@ class MakeTest(RecipesTest):
         self.assertEqual(lines, sorted(told))
 
     def test_checks_what_is_new(self) -> None:
-        self.want("make")
-        self.file("Makefile", recipe("make"))
         self.assert_made(self.make(), 0, 5)
         self.assertEqual((self.folder / "suite/stored.line").read_text(), "accepted 1 checkpoints 100 steps\n")
         self.assert_made(self.make(), 0, 0)
@@ -28,8 +31,6 @@ class MakeTest(RecipesTest):
         self.assert_made(self.make(), 2, 0, told)
 
     def test_a_check_that_is_killed_passes_at_no_run(self) -> None:
-        self.want("make")
-        self.file("Makefile", recipe("make"))
         self.assert_made(self.make(), 0, 5)
         self.file("suite/new.orsr", rejoining(9))
         self.killing(True)
@@ -42,8 +43,6 @@ class MakeTest(RecipesTest):
         self.assert_made(self.make(), 2, 0, b"suite/new.line: ")
 
     def test_names_that_make_cannot_read_are_refused(self) -> None:
-        self.want("make")
-        self.file("Makefile", recipe("make"))
         for name, shown in (
             ("with a space", "suite/with a space.orsr"),
             (";touch owned;\x1b[2J", "suite/?touch owned???2J.orsr"),

@@ -311,11 +311,11 @@ def instructions_of(it: FalseClaim, symbols: Symbols = NONE) -> Iterator[str]:
         yield from placed_lines(step, symbols)
 
 
-def callers_of(run: Run, it: FalseClaim, symbols: Symbols) -> str:
+def callers_of(run: Run, it: FalseClaim, symbols: Symbols, calls: Calls) -> str:
     """Returns the line that says where the last of them is, and who called that; nothing if none wrote the part."""
     if not writers_of(it):
         return ""
-    return stack_line(run.machine(writers_of(it)[-1].before.count), symbols, Calls(run))
+    return stack_line(run.machine(writers_of(it)[-1].before.count), symbols, calls)
 
 
 def table(rows: Iterable[Sequence[str]]) -> Iterator[str]:

@@ -46,24 +46,11 @@ def parser() -> Parser:
         "galluspa debug examples/face.orsr -ex 'watch dot 600,219' -ex run",
     )
     options.add_argument("recording", metavar="RECORDING", type=Path)
-    options.add_argument(
-        "-x",
-        "--command",
-        metavar="FILE",
-        action=_Given,
-        dest="given",
-        default=[],
-        help="carry out the commands in a file, a line each; repeatable",
-    )
-    options.add_argument(
-        "-ex",
-        "--eval-command",
-        metavar="COMMAND",
-        action=_Given,
-        dest="given",
-        default=[],
-        help="carry out a command; repeatable, and with -x, in their order",
-    )
+    for names, metavar, does in (
+        (("-x", "--command"), "FILE", "carry out the commands in a file, a line each; repeatable"),
+        (("-ex", "--eval-command"), "COMMAND", "carry out a command; repeatable, and with -x, in their order"),
+    ):
+        options.add_argument(*names, metavar=metavar, action=_Given, dest="given", default=[], help=does)
     options.add_argument("--batch", action="store_true", help="end after these commands, or with status 2 at the first error")
     options.add_number("--at", "N", 0, COUNTS, "the count to begin at (default 0)", default=0)
     add_directory_option(options, "sources")

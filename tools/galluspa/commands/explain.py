@@ -10,6 +10,7 @@ from collections.abc import Iterator
 from pathlib import Path
 from textwrap import dedent
 
+from galluspa.analysis.calls import Calls, add_stack_limit_option
 from galluspa.analysis.explanation import WORDS_SHOWN, callers_of, explain_false, plain
 from galluspa.engine.programcommands import explain_session
 from galluspa.engine.library import Library
@@ -56,6 +57,7 @@ def parser() -> Parser:
         default=STEPS,
     )
     options.add_number("--words", "N", 0, WORDS, f"print at most N words of memory (default {WORDS_SHOWN})", default=WORDS_SHOWN)
+    add_stack_limit_option(options)
     options.add_symbols_option()
     options.add_limit_option("end after this many seconds, with what was found by then")
     options.add_machine_options()
@@ -76,7 +78,7 @@ def explanation(text: bytes, answer: Answer, program: Program, asked: Namespace,
         yield ""
         it = explain_false(looked_at, program, read, answer.false_claim, asked.steps)
         try:
-            callers = callers_of(looked_at, it, symbols) if symbols else ""
+            callers = callers_of(looked_at, it, symbols, Calls(looked_at, asked.stack_limit)) if symbols else ""
         except TimeIsUp:
             callers = ""
         yield from plain(it, str(asked.recording), asked.words, symbols, callers)

@@ -74,14 +74,7 @@ def parser() -> Parser:
         "-j", "N", 1, 256, "run N processes in parallel (default: the number of CPUs)", dest="jobs", default=os.cpu_count() or 1
     )
     options.add_number("--most", "N", 1, 1000, "stop after N distinct differences (default 1)", default=1)
-    options.add_argument(
-        "--ignore",
-        metavar="PART",
-        action="append",
-        choices=PARTS,
-        default=[],
-        help="leave a part out of the comparison, such as timer",
-    )
+    options.add_repeatable("--ignore", "PART", "leave a part out of the comparison, such as timer", choices=PARTS)
     add_seconds_option(options, "--answer-seconds", ANSWER_SECONDS, "for a session")
     options.add_argument(
         "-o", metavar="FOLDER", dest="folder", type=Path, default=Path("fuzz"), help="output folder (default: fuzz)"

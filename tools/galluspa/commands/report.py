@@ -43,13 +43,11 @@ def parser() -> Parser:
         help=f"pin the text in this file, of at most {live.LONGEST_NOTE:,} bytes, to count N, or else to the first false "
         "checkpoint, or the last one",
     )
-    options.add_argument(
+    options.add_repeatable(
         "--source",
-        metavar="FILE",
+        "FILE",
+        "put this source into the page, which shows its lines beside the instructions; once for each file",
         type=Path,
-        action="append",
-        default=[],
-        help="put this source into the page, which shows its lines beside the instructions; once for each file",
     )
     options.add_symbols_option()
     options.add_limit_option("end after this many seconds")

@@ -12,6 +12,7 @@ from collections.abc import Sequence
 from pathlib import Path
 from textwrap import dedent
 
+from galluspa.analysis.calls import add_stack_limit_option
 from galluspa.engine.library import Library
 from galluspa.engine.program import Program
 from galluspa.formats.recording import MEMORY_BYTES
@@ -51,13 +52,7 @@ def parser() -> Parser:
         help="run all on this image: the initial state of a session or a recording, or a raw image of the memory",
     )
     options.add_number("--at", "ADDRESS", 0, MEMORY_BYTES, "the byte address where a raw image begins (default 0)")
-    options.add_argument(
-        "--set",
-        metavar="NAME=VALUE",
-        action="append",
-        default=[],
-        help="a number of the initial state: R0 to R15, H, PC (in words), flags, rate, phase",
-    )
+    options.add_repeatable("--set", "NAME=VALUE", "a number of the initial state: R0 to R15, H, PC (in words), flags, rate, phase")
     options.add_argument(
         "--approve", action="store_true", help="approve the results of this run, in place of those approved before"
     )
@@ -92,6 +87,7 @@ def parser() -> Parser:
     add_jobs_option(options, "run")
     options.add_limit_option("end the run of a session after this many seconds; it is then not as approved")
     add_output_options(options)
+    add_stack_limit_option(options)
     options.add_symbols_option()
     options.add_machine_options()
     return options
@@ -154,7 +150,7 @@ def main(asked: Namespace) -> int:
         return print_script(program, shelf, cases)
     shelf.find_names(cases)
     before = shelf_of(asked, program, asked.earlier, None) if asked.earlier else None
-    reruns = Reruns(asked, Judge(shelf, Library.find(asked.library), asked.limit, before))
+    reruns = Reruns(asked, Judge(shelf, Library.find(asked.library), asked.limit, before, asked.stack_limit))
     for name in others:
         print(f"# {name}: no session")
     return reported(asked, in_parallel(asked.jobs, reruns.outcome, cases), len(cases))

@@ -28,12 +28,10 @@ def parser() -> Parser:
     )
     options.add_argument("--memory", metavar="IMAGE", type=Path, help="a raw image of the initial memory, 1 MB or less")
     options.add_number("--at", "ADDRESS", 0, MEMORY_BYTES, "the byte address where the image begins (default 0)", default=0)
-    options.add_argument(
+    options.add_repeatable(
         "--set",
-        metavar="NAME=VALUE",
-        action="append",
-        default=[],
-        help="a number of the initial state: R0 to R15, H, PC (in words, or a name of a symbol file), "
+        "NAME=VALUE",
+        "a number of the initial state: R0 to R15, H, PC (in words, or a name of a symbol file), "
         "flags (as NZ, or a number), rate, phase",
     )
     options.add_argument("--inputs", metavar="CSV", type=Path, help="the inputs: count, kind, value per line")

@@ -36,20 +36,14 @@ def parser() -> Parser:
     )
     options.add_argument("recording", metavar="RECORDING", type=Path)
     options.add_number("--at", "N", 0, COUNTS, "the count (default: that of the last checkpoint)")
-    options.add_argument(
+    options.add_repeatable(
         "--memory",
-        metavar="ADDRESS[,WORDS]",
-        action="append",
-        default=[],
-        help=f"print words of memory, too, from the one at an address on (default {MEMORY_WORDS} "
+        "ADDRESS[,WORDS]",
+        f"print words of memory, too, from the one at an address on (default {MEMORY_WORDS} "
         "words): each as a word, as a number, as bytes and as characters; repeatable",
     )
-    options.add_argument(
-        "--code",
-        metavar="ADDRESS[,WORDS]",
-        action="append",
-        default=[],
-        help=f"print the instructions in words of memory, too (default {MEMORY_WORDS} words); repeatable",
+    options.add_repeatable(
+        "--code", "ADDRESS[,WORDS]", f"print the instructions in words of memory, too (default {MEMORY_WORDS} words); repeatable"
     )
     options.add_argument(
         "--stack",

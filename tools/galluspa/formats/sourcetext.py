@@ -15,13 +15,11 @@ SHOWN = 120
 
 def add_directory_option(options: Parser, shown: str) -> None:
     """Adds the option that names folders of sources, of which a tool shows something."""
-    options.add_argument(
+    options.add_repeatable(
         "--directory",
-        metavar="FOLDER",
+        "FOLDER",
+        f"also show {shown} that are below this folder (default: those below the folder of the symbol file); repeatable",
         type=Path,
-        action="append",
-        default=[],
-        help=f"also show {shown} that are below this folder (default: those below the folder of the symbol file); repeatable",
     )
 
 

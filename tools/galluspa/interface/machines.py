@@ -16,7 +16,7 @@ from galluspa.analysis.timeline import Timeline
 from galluspa.analysis.writers import LINKS, MOST_LINKS, origins_asked
 from galluspa.engine.library import Library
 from galluspa.engine.machine import Machine as RawMachine
-from galluspa.engine.following import Call as OpenCall, Follower
+from galluspa.engine.following import EACH_RISE, Call as OpenCall, Follower
 from galluspa.engine.program import Program
 from galluspa.engine.tracing import Run, RunFrom, Step
 from galluspa.formats import recording as recordings
@@ -208,11 +208,13 @@ class Machine:
             picture: "Image" = drawn.copy()
         return picture
 
-    def calls(self) -> Sequence[Call]:
+    def calls(self, stack_limit: int = EACH_RISE) -> Sequence[Call]:
         """Returns the calls that have not returned, the innermost first, by the convention of Project Oberon: exactly, from the
-        first count of the run on, which is that of the checkpoint for a machine of `Machine.claim`."""
-        if self._follower is None:
-            self._follower = Follower(self._run.library, self._run.inputs, self._run.machine(self._run.first_count))
+        first count of the run on, which is that of the checkpoint for a machine of `Machine.claim`. With coroutines,
+        `stack_limit` is the highest R14 of the main stack."""
+        limit = number("stack_limit", stack_limit, 0, EACH_RISE)
+        if self._follower is None or self._follower.limit != limit:
+            self._follower = Follower(self._run.library, self._run.inputs, self._run.machine(self._run.first_count), limit)
         return [self._call(it) for it in reversed(self._follower.go(self.count))]
 
     def _call(self, raw: OpenCall) -> Call:

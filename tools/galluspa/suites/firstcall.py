@@ -50,10 +50,10 @@ class Made:
 class Side:
     """The run of a version, up to the count at which it differs first, and its names."""
 
-    def __init__(self, called: str, run: Run, symbols: Symbols) -> None:
-        self.called = called
+    def __init__(self, run: Run, symbols: Symbols, stack_limit: int) -> None:
         self.run = run
         self._symbols = symbols
+        self._stack_limit = stack_limit
         self.count = run.counts[-1]
         self.start = 0
         self.calls: Sequence[Made] = ()
@@ -69,7 +69,7 @@ class Side:
     def follow(self) -> None:
         """Follows the calls up to the count, and keeps those since the last input, and those that are open there."""
         open_ones, made = list[Made](), list[Made]()
-        for turn in Follower(self.run.library, self.run.inputs, self.run.machine(0)).follow(self.count):
+        for turn in Follower(self.run.library, self.run.inputs, self.run.machine(0), self._stack_limit).follow(self.count):
             made += [Made(*_ended(it, turn.count), True) for it in open_ones[turn.stay :] if turn.count >= self.start]
             del open_ones[turn.stay :]
             if turn.at != NO_CALL:

@@ -3,6 +3,7 @@
 from collections.abc import Sequence
 from dataclasses import dataclass, replace
 
+from galluspa.engine.following import EACH_RISE
 from galluspa.engine.library import Library
 from galluspa.formats.builds import tell_misfit
 from galluspa.formats.recording import MEMORY_BYTES
@@ -39,10 +40,13 @@ class Judged:
 
 class Judge:
     """Runs the stored sessions of a shelf, each for `seconds` at most. With the image of the version before, it says what
-    that one did where this one differs."""
+    that one did where this one differs. No R14 of the system's stack is above `stack_limit`."""
 
-    def __init__(self, shelf: Shelf, library: Library, seconds: float, before: Shelf | None = None) -> None:
+    def __init__(
+        self, shelf: Shelf, library: Library, seconds: float, before: Shelf | None = None, stack_limit: int = EACH_RISE
+    ) -> None:
         self.shelf = shelf
+        self._stack_limit = stack_limit
         self._library = library
         self._seconds = seconds
         self._before = before
@@ -58,7 +62,7 @@ class Judge:
         tell_misfit(symbols, lambda: start.memory.ljust(MEMORY_BYTES, b"\0"))
         called = "now" if shelf is self.shelf else "before"
         rerunner = Rerunner(replace(self._library, limit=limit), program, self._boots)
-        return Version(called, rerunner.run(start, script, symbols), symbols)
+        return Version(called, rerunner.run(start, script, symbols), symbols, self._stack_limit)
 
     def judged(self, case: Case) -> Judged:
         """Returns how the run of a stored session compares with what was approved, and why it differs."""

@@ -31,11 +31,12 @@ ABOUT_STILL = "if a caret or a clock blinks there, put it into mask, or wait for
 
 @dataclass(frozen=True)
 class Version:
-    """The run of a script in a version of the system: what the version is called, and its names."""
+    """The run of a script in a version of the system: what the version is called, its names, and the highest R14 of its stack."""
 
     called: str
     ran: Rerun
     symbols: Symbols
+    stack_limit: int
 
 
 class Teller:
@@ -45,6 +46,7 @@ class Teller:
         read = recording.read(version.ran.text)
         self.run = Run(library, read, range(len(read.checkpoints)))
         self.symbols = version.symbols
+        self.stack_limit = version.stack_limit
         self._looks = {it.name: it for it in version.ran.looks}
         self._sent = version.ran.sent
         self.called = version.called
@@ -54,7 +56,7 @@ class Teller:
         """Returns where an instruction is, and which calls are open there, the innermost first."""
         at, symbols = 4 * pc, self.symbols
         name, source = symbols.text(at) or f"PC {pc}", symbols.source(at)
-        open_ones = Follower(self.run.library, self.run.inputs, self.run.machine(0)).go(count)
+        open_ones = Follower(self.run.library, self.run.inputs, self.run.machine(0), self.stack_limit).go(count)
         callers = [symbols.text(4 * it.at) or f"PC {it.at}" for it in reversed(open_ones)]
         more = f" < .. {len(callers) - CALLS:,} more" if len(callers) > CALLS else ""
         chain = "".join(f" < {it}" for it in callers[:CALLS])
@@ -121,7 +123,7 @@ def reasons(library: Library, found: Differences, versions: Sequence[Version]) -
     if found.byte is not None:
         yield "; ".join([f"byte {found.byte:,} was sent", *(f"{it.called} {it.byte(found.byte)}" for it in tellers)])
     if len(tellers) > 1:
-        now, before = (Side(it.called, it.run, it.symbols) for it in tellers[:2])
+        now, before = (Side(it.run, it.symbols, it.stack_limit) for it in tellers[:2])
         yield from first_difference(now, before)
 
 

@@ -32,6 +32,7 @@ def pytest_addoption(parser: pytest.Parser) -> None:
     )
     group.addoption("--galluspa-recordings", metavar="FOLDER", help="write a recording of each run into this folder")
     parser.addini("galluspa_image", "the image on which scripts run that name none, and `oberon` without one", default="")
+    parser.addini("galluspa_stack_limit", "the highest R14 of the stack, as of galluspa rerun", default="0xFFFFFFFF")
     parser.addini("galluspa_limit", "how many seconds each script and each recording may take", default="600")
 
 

@@ -5,10 +5,11 @@ from pathlib import Path
 
 import pytest
 
+from galluspa.engine.following import EACH_RISE
 from galluspa.engine.library import Library
 from galluspa.engine.program import Program
 from galluspa.formats.symbolfiles import symbols_for
-from galluspa.process.cli import Refused, make_folder, write_file
+from galluspa.process.cli import Refused, make_folder, number, write_file
 from galluspa.suites import storedsessions
 from galluspa.suites.approvals import stem_of
 from galluspa.suites.cases import Case
@@ -28,11 +29,16 @@ class Suite:
         self.program = Program.find(None)
         self.library = Library.find(None)
         self.is_approving = bool(config.getoption("--galluspa-approve"))
-        limit = str(config.getini("galluspa_limit"))
-        if not limit.isdecimal() or not 1 <= int(limit) <= MOST_SECONDS:
-            raise Refused(f"galluspa_limit is {limit}: expected a number of seconds from 1 to {MOST_SECONDS:,}")
-        self.seconds = int(limit)
+        self.seconds = self._number("galluspa_limit", 1, MOST_SECONDS)
+        self.stack_limit = self._number("galluspa_stack_limit", 0, EACH_RISE)
         self._judges: dict[Path, Judge] = {}
+
+    def _number(self, name: str, least: int, most: int) -> int:
+        """Returns a setting that is a whole number."""
+        value = number(text := str(self.config.getini(name)))
+        if value is None or not least <= value <= most:
+            raise Refused(f"{name} is {text}: expected a whole number from {least:,} to {most:,}")
+        return value
 
     @cached_property
     def image(self) -> Path | None:
@@ -48,7 +54,7 @@ class Suite:
         if folder not in self._judges:
             before = self.config.getoption("--galluspa-before")
             earlier = self._shelf(folder, self.config.invocation_params.dir / str(before)) if before else None
-            self._judges[folder] = Judge(self._shelf(folder, self.image), self.library, self.seconds, earlier)
+            self._judges[folder] = Judge(self._shelf(folder, self.image), self.library, self.seconds, earlier, self.stack_limit)
         judge = self._judges[folder]
         judge.shelf.find_names([self.case(path)])
         return judge

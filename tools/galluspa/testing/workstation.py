@@ -130,8 +130,8 @@ class Workstation:
         return self.machine.word(place)
 
     def calls(self) -> Sequence[Call]:
-        """Returns the calls that have not returned, as `Machine.calls` does."""
-        return self.machine.calls()
+        """Returns the calls that have not returned, as `Machine.calls` does, with the setting `galluspa_stack_limit`."""
+        return self.machine.calls(self._suite.stack_limit)
 
     def screen(self) -> "Image":
         """Returns the screen, as `Machine.screen` does."""
