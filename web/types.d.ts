@@ -452,12 +452,13 @@ interface Extent {
   generation: number;
 }
 
-/** A part of the timeline: how many lines of the screen changed in it, and how many bytes were sent. */
+/** A part of the timeline: how many lines of the screen changed in it, how many bytes were sent, and of each count at which the queue dropped keys how many it took. */
 interface Cell {
   from: number;
   end: number;
   lines: number;
   sent: number;
+  dropped: [number, number][];
 }
 
 /** The cells that are known, and whether all of them are. */

@@ -4,7 +4,7 @@
 const { readFileSync } = require("fs");
 const { join } = require("path");
 const {
-  AT, FOLDER, Desk, Fresh, chance, example, expect, expectMoment, fail, field, labels, sorted, withNumbers, COUNTER, STORE, CHANGE, LOAD, BECOMES, SENDS, SENDS_BYTE, TAKES, STOPS,
+  AT, FOLDER, Desk, Fresh, chance, example, expect, expectMoment, field, labels, sorted, stopped, withNumbers, COUNTER, STORE, CHANGE, LOAD, BECOMES, SENDS, SENDS_BYTE, TAKES, STOPS,
 } = require("./workers.js");
 
 const TIMER_ADDRESS = 0xffffc0;
@@ -148,17 +148,7 @@ async function stop() {
   const session = example("counts"), desk = new Desk(), end = 150000000, none = [{ kind: STORE, from: 900000, end: 900001 }];
   await desk.openSession(session);
   await desk.run(end);
-  const took = [];
-  for (let k = 0; k < 3; k++) {
-    const searching = desk.past.find({ to: end, conditions: none, last: k === 1 });
-    await new Promise((resolve) => setTimeout(resolve, 150));
-    const begun = performance.now();
-    await desk.past.stop();
-    expect("a search that was stopped", await searching, { stopped: true });
-    took.push(performance.now() - begun);
-  }
-  // (whole, it takes many seconds; what else runs may hold a worker up for some tenths)
-  if (Math.min(...took) > 1000) fail(`to stop a search took ${took} ms`);
+  const took = await stopped(desk, "a search", (k) => desk.past.find({ to: end, conditions: none, last: k === 1 }));
   let isOver = false;
   const searching = desk.past.find({ to: end, conditions: none, request: 5 }).finally(() => (isOver = true)), looks = [];
   for (const at of [end - 1000, 1000000, end / 2]) {
@@ -177,7 +167,7 @@ async function stop() {
   await mixed;
   expect("a look at the new machine", (await desk.past.peek(0)).count, 0);
   desk.end();
-  console.log(`stops: a search ends in ${Math.min(...took).toFixed(0)} ms, looks during one take ${looks.map((ms) => ms.toFixed(0)).join(", ")} ms, and answers about another machine are void`);
+  console.log(`stops: a search ends in ${took} ms, looks during one take ${looks.map((ms) => ms.toFixed(0)).join(", ")} ms, and answers about another machine are void`);
 }
 
 module.exports = [search, who, whoSetDevices, stop];

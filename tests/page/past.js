@@ -3,10 +3,6 @@
  * It ends with status 1 at the first thing that is wrong. */
 "use strict";
 
-const { fail } = require("./workers.js");
+const { main } = require("./workers.js");
 
-(async () => {
-  for (const task of [...require("./looks.js"), ...require("./hits.js"), ...require("./calls.js"), ...require("./aligned.js"), ...require("./takeovers.js")]) await task();
-  // An end before all is written would cut it off.
-  process.stdout.write("", () => process.exit(0));
-})().catch((error) => fail(error.stack ?? error));
+main([...require("./looks.js"), ...require("./hits.js"), ...require("./calls.js"), ...require("./aligned.js"), ...require("./takeovers.js")]);

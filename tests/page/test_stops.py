@@ -160,6 +160,25 @@ def lists(desk: Desk) -> list[list[str]]:
     return desk.page.answer(LISTS)
 
 
+def test_mark_dropped_keys(desk: Desk) -> None:
+    """The list of keys marks those that the full queue dropped: of 21 that come while nothing takes one five, and none of two after five were taken."""
+    inputs = [*((at // 2, "key", 0x40 + at) for at in range(20)), *((at, "key", 0x70) for at in (20, 26, 26))]
+    # Twenty times nothing; then R1 := the next key, five times.
+    desk.run_to_end(
+        "keys.json", json.dumps(session([0x5000FFC0, *[0x42000000] * 20, *[0x8100001C] * 5, JUMP], [60], inputs)).encode()
+    )
+    desk.page.wait(KNOWN)
+    texts = desk.page.answer("[...el('lists').children[1].children].map((it) => it.textContent)")
+    dropped = [
+        "key 50 at 8, dropped",
+        "key 51 at 8, dropped",
+        "key 52 at 9, dropped",
+        "key 53 at 9, dropped",
+        "key 70 at 20, dropped",
+    ]
+    expect("the keys that were dropped", [len(texts), *(it for it in texts if it.endswith(", dropped"))], [len(inputs), *dropped])
+
+
 def test_show_lanes_of_recording(desk: Desk) -> None:
     """The lanes of the screen and of the sent bytes are the same while one draws, after the recording is continued, and in a replay at either speed."""
     page = desk.page

@@ -4,7 +4,7 @@
 
 const { readFileSync } = require("fs");
 const { join } = require("path");
-const { FOLDER, COUNTER, Desk, example, expect, fail, withNumbers } = require("./workers.js");
+const { FOLDER, COUNTER, Desk, example, expect, main, stopped, withNumbers } = require("./workers.js");
 
 // Keyframes and searches have borders at few counts.
 const SMALL = { KEYFRAME_STEPS: 100, KEYFRAME_MS: 0, FIRST_PIECE: 30, MOST_PIECE: 100, NEAR_STEPS: 16, FAR_STEPS: 64, SUMS_FIRST: 4, SUMS_AT_ONCE: 32 };
@@ -38,29 +38,14 @@ async function refused() {
 
 /** A long question is ended at once; a search ends it, too. */
 async function stop() {
-  const end = 150000000, desk = new Desk(), took = [];
+  const end = 150000000, desk = new Desk();
   await desk.openSession(example("counts"));
   await desk.run(end);
-  for (let k = 0; k < 3; k++) {
-    const asked = desk.past.why({ register: 12, before: end, links: 20 });
-    await new Promise((resolve) => setTimeout(resolve, 100));
-    const begun = performance.now();
-    await desk.past.stop();
-    expect("a question that was ended", await asked, { stopped: true });
-    took.push(performance.now() - begun);
-  }
-  // (whole, they take many seconds; what else runs may hold a worker up for some tenths)
-  if (Math.min(...took) > 1000) fail(`to end questions took ${took} ms`);
-  const asked = desk.past.why({ register: 12, before: end, links: 20 }), hit = await desk.past.find({ to: 100, conditions: [{ kind: COUNTER, from: 1, end: 2 }] });
+  const ask = () => desk.past.why({ register: 12, before: end, links: 20 }), took = await stopped(desk, "a question", ask);
+  const asked = ask(), hit = await desk.past.find({ to: 100, conditions: [{ kind: COUNTER, from: 1, end: 2 }] });
   expect("a question that a search ended, and what that found", [await asked, hit.at], [{ stopped: true }, 1]);
   desk.end();
-  console.log(`questions: ended in ${Math.min(...took).toFixed(0)} ms`);
+  console.log(`questions: ended in ${took} ms`);
 }
 
-(async () => {
-  await refused();
-  await stop();
-  for (const one of JSON.parse(readFileSync(join(FOLDER, "cases.json")))) await ask(one);
-  // An end before all is written would cut it off.
-  process.stdout.write("", () => process.exit(0));
-})().catch((error) => fail(error.stack ?? error));
+main([refused, stop, ...JSON.parse(readFileSync(join(FOLDER, "cases.json"))).map((one) => () => ask(one))]);

@@ -185,7 +185,34 @@ function withFalseKeyframes(number) {
   return workerScript.replace(right, wrong);
 }
 
+/** Asks something long three times, ends it each time, and returns the fewest ms that this took. */
+async function stopped(desk, what, ask) {
+  const took = [];
+  for (let k = 0; k < 3; k++) {
+    const asked = ask(k);
+    await new Promise((resolve) => setTimeout(resolve, 150));
+    const begun = performance.now();
+    await desk.past.stop();
+    expect(`${what} that was stopped`, await asked, { stopped: true });
+    took.push(performance.now() - begun);
+  }
+  // (whole, it takes many seconds; what else runs may hold a worker up for some tenths)
+  if (Math.min(...took) > 1000) fail(`to stop ${what} took ${took} ms`);
+  return Math.min(...took).toFixed(0);
+}
+
+/** Runs tasks in their order, and ends node. */
+async function main(tasks) {
+  try {
+    for (const task of tasks) await task();
+  } catch (error) {
+    fail(error.stack ?? error);
+  }
+  // An end before all is written would cut it off.
+  process.stdout.write("", () => process.exit(0));
+}
+
 module.exports = {
   AT, FOLDER, Desk, Fresh, History, Keyframes, Library, callAt, chance, countOf, drawing, example, expect, expectMoment, fail, field, labels,
-  readRecording, readSession, sorted, wasm, withFalseKeyframes, withNumbers, COUNTER, STORE, CHANGE, LOAD, BECOMES, SENDS, SENDS_BYTE, TAKES, STOPS, KIND_NAMES,
+  main, readRecording, readSession, sorted, stopped, wasm, withFalseKeyframes, withNumbers, COUNTER, STORE, CHANGE, LOAD, BECOMES, SENDS, SENDS_BYTE, TAKES, STOPS, KIND_NAMES,
 };

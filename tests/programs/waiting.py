@@ -5,6 +5,7 @@ So it comes back to the same state again and again, until an input or the timer 
 """
 
 import struct
+from collections.abc import Iterable, Iterator
 from random import Random
 
 from galluspa.assembler.encoding import (
@@ -40,6 +41,7 @@ from galluspa.assembler.encoding import (
 )
 from galluspa.formats.recording import MOUSE as MOUSE_BITS, Event
 from galluspa.formats.sessions import KIND_NUMBERS, MOST, Session
+from tests.programs import randomly
 from tests.programs.trial import Case
 
 RATES = (0, 0, 1, 2, 7, 100, 1000, 25000, 25000, 25000, 0xFFFFFFFF)
@@ -50,6 +52,12 @@ CLOSE = 500  # a number of checkpoints that leaves no room between two for a sea
 # R0 to R5 hold numbers; R6 and R7 may count. The variables are 64 kB from the begin, and the stack is below the middle of memory.
 COUNTER, SLOW_COUNTER, BOARD, DATA, STACK, RETURN = 6, 7, 12, 13, 14, 15
 CELLS = tuple(4 * at for at in (0, 1, 2, 3, 4, 5, 6, 7, 60, 255, 300))
+
+
+def cases(seeds: Iterable[int]) -> Iterator[Case]:
+    """Yields for each seed a random program that ends soon, and one that mostly waits."""
+    for seed in seeds:
+        yield from (randomly.case(seed), case(seed))
 
 
 def case(seed: int) -> Case:

@@ -14,7 +14,7 @@ from galluspa.engine.following import EACH_RISE, Call
 from galluspa.engine.tracing import Run, Step
 from galluspa.interface import Recording
 from galluspa.process.cli import Refused
-from tests.programs import randomly, waiting
+from tests.programs import waiting
 from tests.tools import naivecalls
 from tests.tools.samples import JUMP, ToolTest, record, run_of, session, tool
 from tests.tools.test_rerun import script
@@ -82,11 +82,10 @@ class CallsTest(ToolTest):
 
     def test_they_are_those_of_random_programs(self) -> None:
         open_calls = 0
-        for seed in range(20):
-            for case in (randomly.case(seed), waiting.case(seed)):
-                text = record(replace(case.session, checkpoints=[min(case.counts, 900)]).text().encode())
-                for limit in (EACH_RISE, 0):
-                    open_calls += sum(map(len, self.assert_exact(text, limit)))
+        for case in waiting.cases(range(20)):
+            text = record(replace(case.session, checkpoints=[min(case.counts, 900)]).text().encode())
+            for limit in (EACH_RISE, 0):
+                open_calls += sum(map(len, self.assert_exact(text, limit)))
         self.assertGreater(open_calls, 1000)
 
     def test_the_stacks_of_coroutines_have_a_limit_between_them(self) -> None:

@@ -13,7 +13,7 @@ from galluspa.formats.instructions import ALWAYS, NEVER, branches_to, is_branch
 from galluspa.formats.recording import WORDS
 from galluspa.formats.symbolfiles import parsed
 from galluspa.formats.symbols import NONE
-from tests.programs import randomly, waiting
+from tests.programs import waiting
 from tests.tools.samples import EXAMPLES, JUMP, ToolTest, record, session, tool
 
 PROGRAMS, MOST = 4, 500
@@ -49,20 +49,19 @@ def naive_branches(it: Run, first: int, to: int) -> list[Branch]:
 
 class ExecutionsTest(unittest.TestCase):
     def test_counts_are_those_of_single_steps(self) -> None:
-        for seed in range(PROGRAMS):
-            for case in (randomly.case(seed), waiting.case(seed)):
-                counts = min(case.counts, MOST)
-                text = record(replace(case.session, checkpoints=[counts]).text().encode())
-                it = Run.begun(Library.find(None), text)
-                for first in (0, counts // 3):
-                    found = executions_of(it, first, counts)
-                    visits, departures, words = naive(it, first, counts)
-                    self.assertEqual(found.visits, dict(visits), (case.name, first))
-                    self.assertEqual(found.departures, {at: departures[at] for at in visits}, (case.name, first))
-                    changed = {at for at, its in words.items() if len(its) > 1}
-                    self.assertLessEqual(found.changed, changed, case.name)
-                    if found.changed == changed:
-                        self.assertEqual(list(found.branches()), naive_branches(it, first, counts), case.name)
+        for case in waiting.cases(range(PROGRAMS)):
+            counts = min(case.counts, MOST)
+            text = record(replace(case.session, checkpoints=[counts]).text().encode())
+            it = Run.begun(Library.find(None), text)
+            for first in (0, counts // 3):
+                found = executions_of(it, first, counts)
+                visits, departures, words = naive(it, first, counts)
+                self.assertEqual(found.visits, dict(visits), (case.name, first))
+                self.assertEqual(found.departures, {at: departures[at] for at in visits}, (case.name, first))
+                changed = {at for at, its in words.items() if len(its) > 1}
+                self.assertLessEqual(found.changed, changed, case.name)
+                if found.changed == changed:
+                    self.assertEqual(list(found.branches()), naive_branches(it, first, counts), case.name)
 
     def test_a_word_that_a_program_writes_is_a_branch_if_it_was_executed_as_one_alone(self) -> None:
         load, other, go = 0x81000018, 0x42000001, 0xE7FFFFFD

@@ -16,7 +16,7 @@ from galluspa.formats.recording import WORDS
 from galluspa.formats.symbolfiles import parsed
 from galluspa.formats.symbols import NONE
 from galluspa.output.profileformats import difference, text
-from tests.programs import randomly, waiting
+from tests.programs import waiting
 from tests.tools import naivecalls
 from tests.tools.samples import EXAMPLES, ToolTest, record, tool
 from tests.tools.test_navigation import TREES
@@ -80,13 +80,12 @@ class ProfileTest(ToolTest):
     def test_they_are_those_of_random_programs(self) -> None:
         """Also where the contexts are added to the totals in parts."""
         self.symbols = NONE
-        for seed in range(12):
-            for case in (randomly.case(seed), waiting.case(seed)):
-                to = min(case.counts, 900)
-                path = self.file("it.orsr", record(replace(case.session, checkpoints=[to]).text().encode()))
-                for most, first, limit in ((1 << 16, 0, EACH_RISE), (1, to // 3, EACH_RISE), (3, 0, 0)):
-                    with mock.patch.object(calltree, "MOST_CONTEXTS", most), mock.patch.object(following, "TURNS", 5):
-                        self.assert_exact(first, to, path, limit)
+        for case in waiting.cases(range(12)):
+            to = min(case.counts, 900)
+            path = self.file("it.orsr", record(replace(case.session, checkpoints=[to]).text().encode()))
+            for most, first, limit in ((1 << 16, 0, EACH_RISE), (1, to // 3, EACH_RISE), (3, 0, 0)):
+                with mock.patch.object(calltree, "MOST_CONTEXTS", most), mock.patch.object(following, "TURNS", 5):
+                    self.assert_exact(first, to, path, limit)
 
     def test_recursion_counts_once(self) -> None:
         orsr = self.file("trees.orsr", record(tool("assemble", self.file("trees.asm", TREES), "--symbols", self.sym).output))

@@ -121,9 +121,7 @@ class PluginTest(ToolTest):
         self.assert_ends(self.pytest(), 1, "E   none.json: no such file, which the script names as its image")
         self.assert_ends(self.pytest("--galluspa-image", "nothing.json"), 1, "nothing.json: No such file")
         self.assert_ends(self.pytest("-o", "galluspa_limit=soon"), 1, "galluspa_limit is soon: expected a whole number from 1 to")
-        self.assert_ends(
-            self.pytest("-o", "galluspa_stack_limit=-1"), 1, "galluspa_stack_limit is -1: expected a whole number from 0 to"
-        )
+        self.assert_ends(self.pytest("-o", "galluspa_stack_limit=-1"), 1, "galluspa_stack_limit is -1: expected a whole number")
 
     def test_the_stacks_of_coroutines_have_a_limit_between_them(self) -> None:
         self.image(COROUTINES)

@@ -6,7 +6,7 @@ import subprocess
 import time
 from collections.abc import Iterator
 from dataclasses import replace
-from tests.programs import randomly, waiting
+from tests.programs import waiting
 
 from galluspa.engine.machine import MOST_STEPS, SENT_KEPT, Machine, Sent
 from galluspa.engine.recorded import FIRST_BATCH
@@ -105,9 +105,8 @@ class AtOnceTest(ToolTest):
             self.assertGreater(len(steps), 64)
 
     def test_they_are_of_programs_that_change_themselves_and_of_some_that_wait(self) -> None:
-        for seed in range(12):
-            for case in (randomly.case(seed), waiting.case(seed)):
-                self.assert_alike(record(case.session.text().encode()), min(case.counts, 600))
+        for case in waiting.cases(range(12)):
+            self.assert_alike(record(case.session.text().encode()), min(case.counts, 600))
 
     def test_the_machine_is_at_the_last_that_was_taken(self) -> None:
         run = run_of(record(session(COUNTING, [3_000_000])))

@@ -161,6 +161,18 @@ class WhyTest(RerunsTest):
         print(f"rerun: a script of a system that hangs takes {one:.1f} s, ten of them {ten:.1f} s")
         self.assertLess(ten, 5 * one + 2)
 
+    def test_keys_that_the_full_queue_drops_are_said_to_be_dropped(self) -> None:
+        image = self.named("hanging", HANGING)
+        keys = [{"key": at, "when": {"count": 5 + at % 2}} for at in (*range(0, 38, 2), 1)]
+        self.file("tests/it.rerun.json", script(*keys, {"look": "it", "when": {"after": 9}}))
+        self.assertIn(b"sent; 4 keys dropped)", tool("rerun", self.tests, "--image", image, "--approve").output)
+        self.file(
+            "tests/it.rerun.json", script(*keys, {"look": "it"}, {"look": "never", "when": {"sends": "x"}}, patience=2_000_000)
+        )
+        _, why = self.told("--image", image)
+        self.assertEqual(why[0], "events[16] (line 1), key 20 at count 5: dropped, since 16 keys wait")
+        self.assertEqual([it.partition(" ")[0] for it in why[:4]], [f"events[{at}]" for at in range(16, 20)])
+
     def test_memory_by_a_name_has_its_size(self) -> None:
         image = self.named("old", CARET)
         look = {"look": "it", "when": {"count": 5}, "memory": ["count", "text", "text+4", "limit", "text,2"]}

@@ -7,7 +7,7 @@ from tests.programs import randomly
 from unittest import mock
 
 from galluspa.engine.machine import Machine
-from galluspa.engine.tracing import Run, Step
+from galluspa.engine.tracing import Run
 from galluspa.formats import recording
 from galluspa.engine.library import Library
 from tests.tools.samples import EXAMPLES, JUMP, STORED, ToolTest, on_terminal, record, rejoining, run_of, session, tool
@@ -17,12 +17,6 @@ COUNTING = (0x6100000F, 0x41190001, 0xE93FFFFE, 0x600B0000)
 STOPS_AFTER = 1 + 2 * 0xF0000
 # R1 := -56; R2 := 10; R2 := R2 - 1 until it is 0; R0 := 65 is sent and stored at 400; a jump to itself.
 SENDING = (0x5100FFC8, 0x4200000A, 0x42290001, 0xE93FFFFE, 0x40000041, 0xA0100000, 0xA0200190, JUMP)
-
-
-def steps_of(text: bytes, number: int) -> list[Step]:
-    """Returns the first instructions of a true recording."""
-    run = run_of(text)
-    return list(run.steps(run.machine(0), number))
 
 
 class TraceTest(ToolTest):
@@ -130,7 +124,8 @@ class TraceTest(ToolTest):
             registers = [source.getrandbits(19) for _ in range(16)]
             start = {"R": registers, "H": 0, "PC": 0, "flags": 0, "rate": 0, "phase": 0}
             made = record({**session(words, [1]), "version": 2, "start": start})
-            for step in steps_of(made, 100):
+            run = run_of(made)
+            for step in run.steps(run.machine(0), 100):
                 changed = {f"R{at}" for at in range(16) if step.before.registers[at] != step.after.registers[at]}
                 changed |= {"H"} if step.before.h != step.after.h else set()
                 changed |= {"flags"} if step.before.flags != step.after.flags else set()

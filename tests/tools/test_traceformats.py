@@ -8,7 +8,7 @@ from galluspa.formats.instructions import address, is_branch, mnemonic
 from galluspa.formats.symbolfiles import parsed
 from galluspa.formats.symbols import NONE, Symbols
 from galluspa.output.traceformats import JsonLines
-from tests.programs import randomly, waiting
+from tests.programs import waiting
 from tests.tools import samples
 from tests.tools.samples import EXAMPLES, ToolTest, record, session, tool
 
@@ -54,9 +54,8 @@ class JsonTest(ToolTest):
         self.assertGreater(len(lines), 0)
 
     def test_lines_are_those_of_json_dumps(self) -> None:
-        for seed in range(12):
-            for case in (randomly.case(seed), waiting.case(seed)):
-                self.assert_same(record(case.session.text().encode()), min(case.counts, 600))
+        for case in waiting.cases(range(12)):
+            self.assert_same(record(case.session.text().encode()), min(case.counts, 600))
         for words in ((0x000C0000,), (0x600B0000,), (0x6100001F, 0x81100000), (0x6100FFFF, 0xC7000001)):
             self.assert_same(record(session(words, [5])), 5)
 

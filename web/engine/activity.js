@@ -1,16 +1,16 @@
 // @ts-check
-/* What the lanes of the timeline show of what the machine did: how many screen lines changed from the beginning of a cell to its end, and
- * how many bytes were sent in it. So they depend on the recording alone, and not on how it was watched: a cell is known once the machine was
+/* What the lanes of the timeline show of what the machine did: how many screen lines changed from the beginning of a cell to its end,
+ * how many bytes were sent in it, and which keys the full queue dropped. So they depend on the recording alone, and not on how it was watched: a cell is known once the machine was
  * run to both of its ends. Looks come first. */
 import { Replayer } from "./replayer.js";
-import { DISPLAY_BYTES } from "../formats/states.js";
+import { DISPLAY_BYTES, KEY, MOST_KEYS } from "../formats/states.js";
 import { Ended, nextTask, unlessEnded } from "./tasks.js";
 
 // Time of one request, if its cells are not long; how many lengths of cells are remembered.
 const SLICE_MS = 60, MOST_SIZES = 12, LINE_WORDS = 32;
 
 /** Where a cell ends, and what came about in it.
- * @typedef {{ end: number, lines: number, sent: number }} CellEnd */
+ * @typedef {Omit<Cell, "from">} CellEnd */
 
 export class Activity {
   /** The cells of each length, by their numbers.
@@ -91,11 +91,35 @@ export class Activity {
    * @returns {Promise<CellEnd>} */
   async cell(from, end, turn) {
     if (this.at !== from) await this.note(from, turn);
-    const { dots, sent } = this, before = dots.slice();
+    const { dots, sent } = this, before = dots.slice(), dropped = await this.dropped(from, end, turn);
     await this.note(end, turn);
     let lines = 0;
     for (let at = 0; at < before.length; at += LINE_WORDS) lines += before.subarray(at, at + LINE_WORDS).every((word, k) => word === dots[at + k]) ? 0 : 1;
-    return { end, lines, sent: this.sent - sent };
+    return { end, lines, sent: this.sent - sent, dropped };
+  }
+
+  /** Returns the counts in [from, end) at which the queue drops keys, each with how many of its keys the queue takes. The machine is at `from`, and is run to a
+   * later count only if the queue may be full there.
+   * @param {number} from
+   * @param {number} end
+   * @param {() => Promise<void>} turn */
+  async dropped(from, end, turn) {
+    const { replayer, history: { inputs } } = this, last = inputs.from(end);
+    /** @type {Cell["dropped"]} */
+    const found = [];
+    let waiting = replayer.part("keys");
+    for (let at = inputs.from(from), next = at; at < last; at = next) {
+      const count = inputs.count(at);
+      let keys = 0;
+      for (; next < last && inputs.count(next) === count; next++) keys += inputs.kind(next) === KEY ? 1 : 0;
+      if (waiting + keys > MOST_KEYS) {
+        await this.note(count, turn);
+        waiting = replayer.part("keys");
+        if (waiting + keys > MOST_KEYS) found.push([count, MOST_KEYS - waiting]);
+      }
+      waiting = Math.min(MOST_KEYS, waiting + keys);
+    }
+    return found;
   }
 
   /** Runs the machine to a count, and notes its dots and how much it sent.

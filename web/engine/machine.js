@@ -10,10 +10,10 @@ import { Playback } from "./playback.js";
 import { Recorder } from "./recorder.js";
 import { CHECKPOINT_LIMIT, INPUT_LIMIT, INPUT_LIMIT_WITH_DISK, MOST_COUNT, SERIAL_LIMIT } from "../formats/limits.js";
 import { Refused } from "../formats/refused.js";
-import { countOf, equalWords, joined, KEY, last, MOUSE, PER_SECOND, SERIAL, wordsOf } from "../formats/states.js";
+import { countOf, equalWords, joined, KEY, last, MOST_KEYS, MOUSE, PER_SECOND, SERIAL, wordsOf } from "../formats/states.js";
 import { firstTable, sliceOf } from "./slices.js";
 
-const QUEUE = 16, RECEIVED = 256;
+const RECEIVED = 256;
 
 export class Machine extends Playback {
   arrivals = new Arrivals();
@@ -160,7 +160,7 @@ export class Machine extends Playback {
   feed() {
     const { keys, serial, typed } = this.arrivals;
     if (!typed || this.inputRefusal) return false;
-    const free = Math.min(QUEUE - this.part("keys") - this.due(KEY), this.inputLimit - this.inputs.length);
+    const free = Math.min(MOST_KEYS - this.part("keys") - this.due(KEY), this.inputLimit - this.inputs.length);
     for (let key = 0; key < free && keys.length; key++) this.input(KEY, keys.take());
     if (this.serialWaits && !this.isReceiving) this.input(SERIAL, serial.take());
     return keys.length + this.serialWaits > 0;

@@ -4,15 +4,13 @@
 import { CHANGE, IS, STORE, WRITES } from "../formats/conditions.js";
 import { INPUT_BYTES } from "../formats/layout.js";
 import { Refused } from "../formats/refused.js";
-import { AT, field, KEY, KINDS, MEMORY_BYTES, REGISTERS_ASKED } from "../formats/states.js";
+import { AT, field, KEY, KINDS, MEMORY_BYTES, MOST_KEYS, REGISTERS_ASKED } from "../formats/states.js";
 import { ALL_BYTES, ALL_FLAGS, bitsOf, isSum, LEDS_AT, origins, valueIn } from "./origins.js";
 import { isWhole } from "./tasks.js";
 
 const MOST_LINKS = 200;
 // How many of the last instructions are searched first, and then next; and how many are recorded to find a sum: in all, by the first call, and by each later one.
 const NEAR_STEPS = 1024, FAR_STEPS = 65536, SUM_STEPS = 131072, SUMS_FIRST = 256, SUMS_AT_ONCE = 4096;
-// The most key codes that wait.
-const MOST_KEYS = 16;
 const FLAGS_NUMBER = REGISTERS_ASKED.indexOf("flags");
 /** The kinds of inputs that set the devices from which one loads.
  * @type {{ [device: string]: string }} */

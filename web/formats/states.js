@@ -7,6 +7,8 @@ export const STATE_BYTES = 144, WORDS = 262144, MEMORY_BYTES = 4 * WORDS;
 export const PER_SECOND = 25000000;
 export const DISPLAY_AT = 4 * 237504, DISPLAY_BYTES = 98304;
 export const KINDS = ["", "timer", "switches", "mouse", "key", "serial", "disk"], SWITCHES = 2, MOUSE = 3, KEY = 4, SERIAL = 5, DISK = 6;
+/** How many key codes wait at most. */
+export const MOST_KEYS = 16;
 /** What device word 4 reads before the disk's first answer. */
 export const UNANSWERED = 255;
 export const STOPS = ["running", "float", "divisor", "fetch", "address"];

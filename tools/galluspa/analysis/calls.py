@@ -22,15 +22,9 @@ AHEAD = 1 << 14
 
 def add_stack_limit_option(options: Parser) -> None:
     """Adds the option that says where another stack begins."""
-    options.add_number(
-        "--stack-limit",
-        "ADDRESS",
-        0,
-        EACH_RISE,
-        "the highest R14 of the stack: if R14 rises above it, another stack is used, as by coroutines, and no call ends "
-        "by that (default: each rise of R14 ends the calls below it)",
-        default=EACH_RISE,
-    )
+    above = "if R14 rises above it, another stack is used, as by coroutines, and no call ends by that"
+    does = f"the highest R14 of the stack: {above} (default: each rise of R14 ends the calls below it)"
+    options.add_number("--stack-limit", "ADDRESS", 0, EACH_RISE, does, default=EACH_RISE)
 
 
 class Calls:

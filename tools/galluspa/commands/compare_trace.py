@@ -52,7 +52,7 @@ def parser() -> Parser:
         default=STANDARD_INPUT,
         help="a file; without one, or as -, standard input, also while the emulator still runs",
     )
-    options.add_argument("--hex", action="store_true", help="all numbers but those of the column count are hexadecimal")
+    options.add_flag("--hex", "all numbers but those of the column count are hexadecimal")
     options.add_number("--from", "N", 0, COUNTS, f"the count of the first line, without a column {COUNT} (default 0)", dest="first")
     options.add_symbols_option()
     options.add_limit_option("end after this many seconds of the machine, and say how far it came")

@@ -51,7 +51,7 @@ def parser() -> Parser:
         (("-ex", "--eval-command"), "COMMAND", "carry out a command; repeatable, and with -x, in their order"),
     ):
         options.add_argument(*names, metavar=metavar, action=_Given, dest="given", default=[], help=does)
-    options.add_argument("--batch", action="store_true", help="end after these commands, or with status 2 at the first error")
+    options.add_flag("--batch", "end after these commands, or with status 2 at the first error")
     options.add_number("--at", "N", 0, COUNTS, "the count to begin at (default 0)", default=0)
     add_directory_option(options, "sources")
     add_stack_limit_option(options)

@@ -45,16 +45,13 @@ def parser() -> Parser:
         default=PARTS.keys(),
         help=f"compare only these, with commas between them: {', '.join(PARTS)} (default: all)",
     )
-    options.add_argument(
+    options.add_flag(
         "--all",
-        action="store_true",
-        help="report every difference in inputs, checkpoints and parts, up to a number of inputs, and of words of each "
-        "checkpoint",
+        "report every difference in inputs, checkpoints and parts, up to a number of inputs, and of words of each checkpoint",
     )
-    options.add_argument(
+    options.add_flag(
         "--who",
-        action="store_true",
-        help="run both machines, and print after each part the last instruction that wrote it in "
+        "run both machines, and print after each part the last instruction that wrote it in "
         "each: from what the checkpoint before claims, whether or not that is true",
     )
     options.add_symbols_option()

@@ -53,9 +53,7 @@ def parser() -> Parser:
     )
     options.add_number("--at", "ADDRESS", 0, MEMORY_BYTES, "the byte address where a raw image begins (default 0)")
     options.add_repeatable("--set", "NAME=VALUE", "a number of the initial state: R0 to R15, H, PC (in words), flags, rate, phase")
-    options.add_argument(
-        "--approve", action="store_true", help="approve the results of this run, in place of those approved before"
-    )
+    options.add_flag("--approve", "approve the results of this run, in place of those approved before")
     options.add_argument(
         "--before",
         metavar="FILE",
@@ -72,15 +70,12 @@ def parser() -> Parser:
         f"its last checkpoint (default {STILL:,}); with 0, look at its last checkpoint",
         default=STILL,
     )
-    options.add_argument(
+    options.add_flag(
         "--polled",
-        action="store_true",
-        help="of a session or a recording, give each input when the machine polls it, from its count on, and not at its count",
+        "of a session or a recording, give each input when the machine polls it, from its count on, and not at its count",
     )
-    options.add_argument("--checkpoints", action="store_true", help="look at each checkpoint of a session or a recording, too")
-    options.add_argument(
-        "--script", action="store_true", help="print the script of one session or recording, to write events into, and run nothing"
-    )
+    options.add_flag("--checkpoints", "look at each checkpoint of a session or a recording, too")
+    options.add_flag("--script", "print the script of one session or recording, to write events into, and run nothing")
     options.add_argument(
         "--recordings", metavar="INTO", type=Path, help="write the recording of each run into this folder, with the counts found"
     )

@@ -39,21 +39,12 @@ def parser() -> Parser:
     options.add_number("--every", "N", 1, COUNTS, "make a checkpoint every N instructions, up to --until or the end of the run")
     options.add_number("--until", "N", 1, COUNTS, "make the last checkpoint at N or before")
     ends = options.add_mutually_exclusive_group()
-    ends.add_argument(
-        "--until-stops",
-        action="store_const",
-        dest="end",
-        const=STOPS,
-        help="make the last checkpoint at the first count at which the machine is stopped",
-    )
-    ends.add_argument(
-        "--until-loops",
-        action="store_const",
-        dest="end",
-        const=LOOPS,
-        help="make the last checkpoint where the machine, after all inputs, enters a loop that it "
-        f"never leaves, of at most {endings.LONGEST_LOOP:,} instructions",
-    )
+    endless = f"after all inputs, enters a loop that it never leaves, of at most {endings.LONGEST_LOOP:,} instructions"
+    for name, end, where in (
+        ("--until-stops", STOPS, "at the first count at which the machine is stopped"),
+        ("--until-loops", LOOPS, f"where the machine, {endless}"),
+    ):
+        ends.add_argument(name, action="store_const", dest="end", const=end, help=f"make the last checkpoint {where}")
     options.add_number(
         "--most", "N", 1, COUNTS, f"look for the stop or the loop up to count N (default {LONGEST_RUN:,})", default=LONGEST_RUN
     )

@@ -45,10 +45,9 @@ def parser() -> Parser:
     options.add_repeatable(
         "--code", "ADDRESS[,WORDS]", f"print the instructions in words of memory, too (default {MEMORY_WORDS} words); repeatable"
     )
-    options.add_argument(
+    options.add_flag(
         "--stack",
-        action="store_true",
-        help=f"print the calls that have not returned, too, and the {STACK_WORDS} words from R14 on, with those that are their "
+        f"print the calls that have not returned, too, and the {STACK_WORDS} words from R14 on, with those that are their "
         "return addresses",
     )
     add_stack_limit_option(options)

@@ -57,15 +57,13 @@ def parser() -> Parser:
         help="search for the first instruction at which a condition holds, as above; `galluspa find` " "finds the last one, too",
     )
     options.add_number("--at", "K", 0, CHECKPOINTS, "begin at what checkpoint K claims, and do not check whether that is true")
-    options.add_argument(
+    options.add_flag(
         "--calls",
-        action="store_true",
-        help="where another procedure begins or resumes, print the calls that have not returned; with --at, those since "
-        "checkpoint K",
+        "where another procedure begins or resumes, print the calls that have not returned; with --at, those since checkpoint K",
     )
     add_stack_limit_option(options)
     options.add_symbols_option()
-    options.add_argument("--json", action="store_true", help="print one JSON object per line")
+    options.add_flag("--json", "print one JSON object per line")
     options.add_limit_option("end after this many seconds, and say how far that was")
     options.add_machine_options()
     return options

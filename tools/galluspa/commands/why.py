@@ -42,10 +42,8 @@ def parser() -> Parser:
     options.add_argument("part", metavar="PART", nargs="+", help="whose value, as above")
     options.add_number("--at", "N", 0, COUNTS, "the count before which it has the value (default: the last checkpoint's)")
     options.add_number("--links", "N", 1, MOST_LINKS, f"follow at most N instructions (default {LINKS})", default=LINKS)
-    options.add_argument(
-        "--no-addresses", action="store_true", help="do not follow where the addresses of loads and stores come from"
-    )
-    options.add_argument("--json", action="store_true", help="print one JSON object")
+    options.add_flag("--no-addresses", "do not follow where the addresses of loads and stores come from")
+    options.add_flag("--json", "print one JSON object")
     add_directory_option(options, "lines of sources")
     options.add_symbols_option()
     add_workers_option(options)

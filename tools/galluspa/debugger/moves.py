@@ -20,27 +20,18 @@ class Moves(Base):
 
     def go_on(self, text: str) -> Iterator[str]:
         """Runs to the next point, or to the N-th."""
-        yield from self._along(text, self.debugger.go_on)
+        yield from self._repeated(text, self.debugger.go_on, is_small=False)
 
     def go_back(self, text: str) -> Iterator[str]:
         """Yields them in reverse."""
-        yield from self._along(text, self.debugger.go_back)
+        yield from self._repeated(text, self.debugger.go_back, is_small=False)
 
-    def _along(self, text: str, move: Callable[[], Pause]) -> Iterator[str]:
-        """Makes a move N times, up to either end."""
-        pause = Pause()
+    def _repeated(self, text: str, move: Callable[[], Pause], is_small: bool = True) -> Iterator[str]:
+        """Makes a move N times: a small one up to a pause, another one up to either end."""
+        pause, ends = Pause(), () if is_small else (0, self.debugger.run.end)
         for _ in range(times(text)):
             before, pause = self.debugger.count, move()
-            if self.debugger.count in (before, 0, self.debugger.run.end):
-                break
-        yield from self.moved(pause)
-
-    def _repeated(self, text: str, move: Callable[[], Pause]) -> Iterator[str]:
-        """Makes a small move N times, or up to a pause."""
-        pause = Pause()
-        for _ in range(times(text)):
-            before, pause = self.debugger.count, move()
-            if pause.reasons or self.debugger.count == before:
+            if self.debugger.count in (before, *ends) or is_small and pause.reasons:
                 break
         yield from self.moved(pause)
 

@@ -78,6 +78,10 @@ class Parser(argparse.ArgumentParser):
         """Adds an option whose value is a whole number from `least` to `most`, with what else argparse is to know of it."""
         self.add_argument(name, metavar=metavar, type=whole_number(least, most), help=does, **more)
 
+    def add_flag(self, name: str, does: str) -> None:
+        """Adds an option without a value, which is False unless it is given."""
+        self.add_argument(name, action="store_true", help=does)
+
     def add_repeatable(self, name: str, metavar: str, does: str, **more: Any) -> None:
         """Adds an option that may be given several times; its value is a list."""
         self.add_argument(name, metavar=metavar, action="append", default=[], help=does, **more)

@@ -6,6 +6,7 @@ from dataclasses import dataclass, replace
 from galluspa.engine.following import EACH_RISE
 from galluspa.engine.library import Library
 from galluspa.formats.builds import tell_misfit
+from galluspa.formats.devicewords import MOST_KEYS
 from galluspa.formats.recording import MEMORY_BYTES
 from galluspa.process.cli import Refused
 from galluspa.process.escapes import printable
@@ -75,7 +76,7 @@ class Judge:
 
     def _why(self, case: Case, now: Version, found: Differences, limit: Limit) -> Sequence[str]:
         """Returns why a run is not as approved, as far as there is time."""
-        why: list[str] = []
+        why = [f"{printable(it)}: dropped, since {MOST_KEYS} keys wait"[:LONGEST] for it in now.ran.dropped[:MOST_TOLD]]
         library = replace(self._library, limit=limit)
         try:
             why += self._hung(now, library)
@@ -133,4 +134,5 @@ def size(ran: Rerun) -> str:
     """Returns how much there is to see of a run."""
     looks, sent = len(ran.looks), len(ran.sent)
     nothing = f"; {printable(', '.join(ran.uncalled))} of a mask is never called" if ran.uncalled else ""
-    return f"{looks} {'look' if looks == 1 else 'looks'}, {sent:,} {'byte' if sent == 1 else 'bytes'} sent{nothing}"
+    dropped = f"; {len(ran.dropped):,} {'key' if len(ran.dropped) == 1 else 'keys'} dropped" if ran.dropped else ""
+    return f"{looks} {'look' if looks == 1 else 'looks'}, {sent:,} {'byte' if sent == 1 else 'bytes'} sent{nothing}{dropped}"

@@ -11,7 +11,7 @@ from galluspa.engine.library import Library, ignore
 from galluspa.engine.machine import Inputs, Machine
 from galluspa.engine.recorded import RawStep
 from galluspa.engine.tracing import Run, RunFrom
-from galluspa.formats.devicewords import RECEIVED
+from galluspa.formats.devicewords import MOST_KEYS, RECEIVED
 from galluspa.formats.recording import DISPLAY_END, DISPLAY_START, MOST_SENT, STOPS as STOP_NAMES, WORD, Event
 from galluspa.formats.scripts import COUNT, POLLS, SENDS as SENDS_TEXT, STILL_FOR, Input, Look, Mask as Part, Script
 from galluspa.formats.sessions import CHECKPOINTS, COUNTS, INPUTS, KIND_NUMBERS
@@ -51,8 +51,8 @@ class Never(Exception):
 
 @dataclass
 class Playing:
-    """The run of an image as far as events have come: a machine on the way, the inputs and the looks with their counts, and
-    the count of the last event."""
+    """The run of an image as far as events have come: a machine on the way, the inputs and the looks with their counts, the keys
+    that the full queue dropped, and the count of the last event."""
 
     library: Library
     machine: Machine
@@ -60,12 +60,15 @@ class Playing:
     script: Script
     inputs: list[Event] = field(default_factory=list)
     looks: list[tuple[int, Look]] = field(default_factory=list)
+    dropped: list[Input] = field(default_factory=list)
     last: int | None = None
 
     def __post_init__(self) -> None:
         self.start = self.machine.copy()
         # The machine where the event before began, as a text does with its first byte, and which event of the script that is.
         self._before, self._begun = -1, self.start
+        # The count of the last key, and how many keys wait after it.
+        self._queue = (-1, 0)
         self._open: dict[tuple[int, ...], OpenCounts] = {}
 
     def play(self, event: Input | Look) -> None:
@@ -77,12 +80,22 @@ class Playing:
         if isinstance(event, Look):
             self.looks.append((count, event))
         else:
+            if event.kind == "key":
+                self._take_key(event, count)
             self.inputs.append(Event(count, KIND_NUMBERS[event.kind], event.value))
         if count > COUNTS or len(self.looks) > CHECKPOINTS or len(self.inputs) > INPUTS:
             raise Refused(f"a session has at most {CHECKPOINTS:,} looks and {INPUTS:,} inputs, up to count {COUNTS:,}")
         self.last = count
         if event.at != self._before:
             self._before, self._begun = event.at, self.at(count)
+
+    def _take_key(self, event: Input, count: int) -> None:
+        """Notes whether the queue takes a key that comes at a count."""
+        self._advance(count)
+        waiting = self._queue[1] if self._queue[0] == count else self.machine.state.key_count
+        if waiting == MOST_KEYS:
+            self.dropped.append(event)
+        self._queue = (count, min(waiting + 1, MOST_KEYS))
 
     def find(self, event: Input | Look) -> int:
         """Returns the count of the next event, which is not added. Raises Never if it does not come."""

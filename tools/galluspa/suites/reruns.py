@@ -58,7 +58,7 @@ class Ended:
 @dataclass(frozen=True)
 class Rerun:
     """A run of a script: its recording, what is seen at its looks, all bytes sent, whether it has inputs, and why it ended
-    early, if it did; and which procedures that masks name are never called."""
+    early, if it did; which procedures that masks name are never called, and which keys the full queue dropped."""
 
     text: bytes
     looks: Sequence[Seen]
@@ -66,6 +66,7 @@ class Rerun:
     has_inputs: bool = False
     ended: Ended | None = None
     uncalled: Sequence[str] = ()
+    dropped: Sequence[str] = ()
 
     @property
     def never(self) -> str:
@@ -119,7 +120,9 @@ class Rerunner:
             looks.append(self._seen(read, claim, look, symbols, script, mask, by_names))
         called = {at for it in drawn.values() for at in it.open.called}
         named = {part: at for _, look in taken for part, at in playing.procedures(look).items()}
-        return Rerun(text, looks, sent, bool(playing.inputs), ended, [part for part, at in named.items() if at not in called])
+        uncalled = [part for part, at in named.items() if at not in called]
+        dropped = [f"{script.place(it.at)}, {it}" for it in playing.dropped]
+        return Rerun(text, looks, sent, bool(playing.inputs), ended, uncalled, dropped)
 
     def _play(self, playing: Playing, event: Input | Look, origin: str) -> None:
         """Finds the count of the next event. Raises Never if it does not come."""

@@ -48,8 +48,12 @@ export function listLanes() {
    * @param {T[]} list
    */
   const latest = (list) => inSpan(list).slice(-LISTED);
+  const room = new Map(lanes.cells.flatMap(({ dropped }) => dropped));
   /** @param {string} lane */
-  const inputs = (lane) => listed[lane].map(([count, kind, value]) => `${kind} ${hex(value, 2)} at ${grouped(count)}`);
+  const inputs = (lane) => listed[lane].map(([count, kind, value], at, all) => {
+    const isDropped = kind === "key" && at - all.findIndex(([first]) => first === count) >= (room.get(count) ?? Infinity);
+    return `${kind} ${hex(value, 2)} at ${grouped(count)}${isDropped ? ", dropped" : ""}`;
+  });
   const unknown = unknownParts(timeline).map(([from, end]) => `not known yet from ${grouped(from)} to ${grouped(end)}`);
   /**
    * @param {"lines" | "sent"} name

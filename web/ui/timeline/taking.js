@@ -3,18 +3,18 @@
 import { app } from "../../host/app.js";
 import { LOAD } from "../../formats/conditions.js";
 import { nowCount, shownCount } from "../../host/shown.js";
-import { AT, field } from "../../formats/states.js";
+import { AT, field, MOST_KEYS } from "../../formats/states.js";
 
-// The bytes of the device whose load takes the oldest key, how many keys wait at most, and within how many counts an instruction that takes one is looked for:
+// The bytes of the device whose load takes the oldest key, and within how many counts an instruction that takes one is looked for:
 // a program may take none.
-const TAKES_KEY = { kind: LOAD, from: 0xffffdc, end: 0xffffe0, value: 0 }, MOST_WAITING = 16, FURTHEST = 1e8;
+const TAKES_KEY = { kind: LOAD, from: 0xffffdc, end: 0xffffe0, value: 0 }, FURTHEST = 1e8;
 
 /** Returns how many keys wait at a count, with those that come there, and whether other inputs come there.
  * @param {number} at */
 async function waitingAt(at) {
   const [moment, rows] = await Promise.all([app.past.moment(at), app.past.around(at, 0, 1)]);
   const inputs = rows?.[0]?.inputs ?? [], keys = inputs.filter(([kind]) => kind === "key").length;
-  return { keys: moment ? Math.min(MOST_WAITING, field(moment.state, AT.keys) + keys) : 0, isKey: keys > 0 };
+  return { keys: moment ? Math.min(MOST_KEYS, field(moment.state, AT.keys) + keys) : 0, isKey: keys > 0 };
 }
 
 /** Returns the counts of the first loads that take a key, in [from, to) and not too far from its beginning, up to a number of them.
