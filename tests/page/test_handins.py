@@ -6,7 +6,7 @@ import re
 import galluspa.formats.recording
 from galluspa.commands.recording_of import recording_in
 from tests.page.driver.desk import Desk, expect, fail
-from tests.page.driver.exported import exported, exported_with, project_in, run_with_key
+from tests.page.driver.exported import exported, exported_echo, exported_with, project_in, run_with_key
 from tests.page.driver.given import ECHOES
 from tests.tools.samples import record, tool
 
@@ -110,9 +110,7 @@ def made(desk: Desk, file: bytes, name: str, source: str, last: int) -> bytes:
 def test_judge_lesson(desk: Desk) -> None:
     """The steps of a lesson that a model has are judged for each hand-in, in a column that a board without a lesson does not have."""
     page = desk.page
-    desk.open_source("echo.asm", ECHOES.format(more=0))
-    run_with_key(desk, "a")
-    file = exported(desk, "echo")
+    file = exported_echo(desk)
     # After the first instruction R1 has the address of the key codes; R2 is never written.
     steps = [{"task": "Do it.", "see": "It is done.", "claim": {"at": 1, **claim}} for claim in ({"R1": 0xFFFFFFDC}, {"R2": 1})]
     taught = {**project_in(file), "name": "model", "lesson": {"title": "Echo", "steps": steps}}
@@ -129,9 +127,7 @@ def test_judge_lesson(desk: Desk) -> None:
 def test_take_turns(desk: Desk) -> None:
     """A comparison that takes long is shown as far as it is, holds no other up, and ends with the board."""
     page = desk.page
-    desk.open_source("echo.asm", ECHOES.format(more=0))
-    run_with_key(desk, "a")
-    file, source = exported(desk, "echo"), COUNTS.format(more=1)
+    file, source = exported_echo(desk), COUNTS.format(more=1)
     slow = source.replace("        B again", "        ADD R9, R9, 1\n        B again")
     files = {"model.html": made(desk, file, "model", source, FAR), "slow.html": made(desk, file, "slow", slow, 100)}
     files["wrong.html"] = made(desk, file, "wrong", COUNTS.format(more=2), 100)

@@ -114,7 +114,6 @@ def test_keep_seldom(desk: Desk) -> None:
 
 def test_resume_twice(desk: Desk) -> None:
     """Two tabs that resume one recording keep two."""
-    page = desk.page
     desk.draw()
     first = type_and_pause(desk, "a")
     with another(desk, "two") as tab:
@@ -124,10 +123,10 @@ def test_resume_twice(desk: Desk) -> None:
         tab.expect_notice("a second resume", "This recording is open in another page: what you do here is kept as a copy.")
         tab.go_on()
         second = type_and_pause(tab, "b")
-        expect("what two tabs keep", sorted(items(page)), sorted([["draw", first, "a"], ["draw", second, "ab"]]))
+        expect("what two tabs keep", sorted(items(desk.page)), sorted([["draw", first, "a"], ["draw", second, "ab"]]))
         desk.go_on()
         third = type_and_pause(desk, "c")
-        expect("what two tabs keep of both", sorted(items(page)), sorted([["draw", third, "ac"], ["draw", second, "ab"]]))
+        expect("what two tabs keep of both", sorted(items(desk.page)), sorted([["draw", third, "ac"], ["draw", second, "ab"]]))
         tab.expect_sound()
     forget_all(desk)
     desk.reload()

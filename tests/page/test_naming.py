@@ -437,25 +437,23 @@ def watch_quickly(desk: Desk) -> None:
 
 def watch_slowly(desk: Desk) -> None:
     """Runs a replay at 25 MHz, in parts with pauses between them."""
-    page = desk.page
     desk.set_speed("clock")
     for count in (70000, 310001, 700000, 899999):
         desk.look_at(count)
         desk.press("run")
-        page.wait(f"galluspa.count() === {count} && !galluspa.frame().on")
+        desk.page.wait(f"galluspa.count() === {count} && !galluspa.frame().on")
     desk.press("step")
 
 
 def watch_back_and_forth(desk: Desk) -> None:
     """Runs a replay by steps and looks at its past, and then to its end."""
-    page = desk.page
     for _ in range(20):
         desk.press("step")
     watch_slowly(desk)
     for share in (0.7, 0.2, 0.5):
-        left, top, width = page.answer("(({ left, top, width }) => [left, top, width])(el('track').getBoundingClientRect())")
+        left, top, width = desk.page.answer("(({ left, top, width }) => [left, top, width])(el('track').getBoundingClientRect())")
         desk.click_at(left + share * width, top + 30)
-        page.wait(f"galluspa.isPast() && {EXACT}")
+        desk.page.wait(f"galluspa.isPast() && {EXACT}")
     desk.press("back-now")
 
 

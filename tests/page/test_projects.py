@@ -7,7 +7,7 @@ import re
 
 from galluspa.commands.recording_of import recording_in
 from tests.page.driver.desk import LONGEST_TASK_MS, Desk, expect, fail, program
-from tests.page.driver.exported import exported, exported_with, project_in, run_with_key
+from tests.page.driver.exported import exported, exported_echo, exported_with, project_in, run_with_key
 from tests.page.driver.given import DRAWS, ECHOES
 from tests.page.driver.records import NUMBER, PARTED, WITH_STORE
 from tests.page.driver.shows import REFUSED_LINE, SENT, shown
@@ -180,9 +180,7 @@ def test_export(desk: Desk) -> None:
 def test_keep_noted(desk: Desk) -> None:
     """A project that was opened from a file is kept once a note is pinned in it, though the page is loaded anew right after that."""
     page = desk.page
-    desk.open_source("echo.asm", ECHOES.format(more=0))
-    run_with_key(desk, "a")
-    file = exported(desk, "echo")
+    file = exported_echo(desk)
     desk.begin_empty()
     desk.drop({"echo.html": file})
     page.wait(f"galluspa.frame() && galluspa.source().isRunning && {SENT} === 'a'")
@@ -252,9 +250,7 @@ def test_ask_noted(desk: Desk) -> None:
 def test_refuse_hostile(desk: Desk) -> None:
     """An exported file that somebody tampered with is refused by name, runs nothing, and leaves what is open as it is."""
     page = desk.page
-    desk.open_source("echo.asm", ECHOES.format(more=0))
-    run_with_key(desk, "a")
-    file = exported(desk, "echo")
+    file = exported_echo(desk)
     project = project_in(file)
     recording = recording_in("echo.html", file)
     bomb = gzip.compress(bytes(170_000_000), 1)
@@ -324,9 +320,7 @@ def test_refuse_hostile(desk: Desk) -> None:
 def test_open_false(desk: Desk) -> None:
     """A project whose recording is false opens at its first false checkpoint, with the verdict and what differs."""
     page = desk.page
-    desk.open_source("echo.asm", ECHOES.format(more=0))
-    run_with_key(desk, "a")
-    file = exported(desk, "echo")
+    file = exported_echo(desk)
     recording = bytearray(recording_in("echo.html", file))
     # The last bytes are those that were sent.
     expect("what was sent last", recording[-1:], b"a")

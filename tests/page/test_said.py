@@ -261,7 +261,6 @@ def test_refuse_each(desk: Desk) -> None:
 
 def test_say_nothing_early(desk: Desk) -> None:
     """The first machine that is opened is shown in the tab that was chosen before, and nothing is said of what was asked too early."""
-    page = desk.page
     for tab, found in (
         ("memory", "el('memory').textContent.includes('00000 ')"),
         ("code", "el('trace').textContent.includes('MOV')"),
@@ -269,5 +268,5 @@ def test_say_nothing_early(desk: Desk) -> None:
         desk.reload()
         desk.press(f"tab-{tab}")
         desk.choose("face.orsr", STORED)
-        page.wait(f"galluspa.frame() && {found}")
-        expect("what the page says", page.answer(NOTICE), "")
+        desk.page.wait(f"galluspa.frame() && {found}")
+        expect("what the page says", desk.page.answer(NOTICE), "")

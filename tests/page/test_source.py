@@ -363,7 +363,6 @@ SOLVED: tuple[tuple[str, tuple[tuple[str, str], ...]], ...] = (
 
 def test_learn(desk: Desk) -> None:
     """Each lesson's steps can be done: the proved check accepts what it wants of the right program, and says what is false of another one."""
-    page = desk.page
     desk.set_speed("fast")
     for number, (name, changes) in enumerate(SOLVED, 1):
         open_lessons(desk)
@@ -372,7 +371,7 @@ def test_learn(desk: Desk) -> None:
         for at, (old, new) in enumerate(changes):
             if at:
                 desk.click_on(lesson_button("Next step"))
-            page.wait(
+            desk.page.wait(
                 f"galluspa.source().file === '{name}.asm' && {ASSEMBLED} && el('lesson').textContent.includes(', step {at + 1} of ')"
             )
             if at or name == "snake":
@@ -480,11 +479,10 @@ def test_keep(desk: Desk) -> None:
 
 def test_write_at_once(desk: Desk) -> None:
     """What is typed into the tab before any source was opened is assembled and runs."""
-    page = desk.page
     desk.press("tab-source")
     desk.click_on("el('source').querySelector('.text')")
     desk.type_line("        MOV R0, 5")
-    page.wait(f"{ASSEMBLED} && {SOURCE_SAID} === 'program.asm: 1 word, 0 problems'")
+    desk.page.wait(f"{ASSEMBLED} && {SOURCE_SAID} === 'program.asm: 1 word, 0 problems'")
     desk.run_source()
     # What comes after its word are zeros, up to the end of memory.
-    page.wait(f"{WORD} === 'STOPPED' && galluspa.shownCount() === 262144")
+    desk.page.wait(f"{WORD} === 'STOPPED' && galluspa.shownCount() === 262144")

@@ -106,7 +106,6 @@ def test_forget_what_was_said(desk: Desk) -> None:
 
 def test_compare_output(desk: Desk) -> None:
     """A recording that claims another byte has that compared, as a register is; and where the machine sends more, or less."""
-    page = desk.page
     text = record({**json.loads((EXAMPLES / "keys.json").read_text()), "checkpoints": [51]})
     own = text[-2:]
     for claimed, said in (
@@ -125,8 +124,8 @@ def test_compare_output(desk: Desk) -> None:
         struct.pack_into("<I", false, at + 128, len(claimed))
         expect("the program's line", program("check", bytes(false))[0], "false checkpoint 1 at 51 part out")
         desk.run_to_end("out.orsr", bytes(false))
-        page.wait("el('false-claim').querySelector('.both')")
-        expect("both outputs", page.answer("el('false-claim').querySelector('.both').textContent"), said)
+        desk.page.wait("el('false-claim').querySelector('.both')")
+        expect("both outputs", desk.page.answer("el('false-claim').querySelector('.both').textContent"), said)
 
 
 def test_count_dots_eaten(desk: Desk) -> None:

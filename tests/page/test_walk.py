@@ -32,7 +32,6 @@ def line_of(said: str) -> int:
 
 def test_walk(desk: Desk) -> None:
     """Each step of the walk does what the document says of it."""
-    page = desk.page
     (source, mended, command), said = read_walk()
     write(desk, source, said)
     type_digits(desk)
@@ -42,7 +41,7 @@ def test_walk(desk: Desk) -> None:
     name = group(r"recording-of (\S+)", command)
     path = desk.folder / name
     path.write_bytes(desk.saved(name))
-    line = open_elsewhere(path, page.answer("sourceField.text"), said)
+    line = open_elsewhere(path, desk.page.answer("sourceField.text"), said)
     places = {**os.environ, "PATH": f"{PROGRAM.parent}:{TOP}:{os.environ['PATH']}", "PYTHONDONTWRITEBYTECODE": "1"}
     ran = run(["bash", "-ec", command], cwd=desk.folder, env=places)
     expect("what the command prints of the exported page", (ran.output.decode(), ran.errors), (f"{line}\n", ""))

@@ -196,10 +196,9 @@ def test_complete(desk: Desk) -> None:
 
 def test_name_mistakes(desk: Desk) -> None:
     """A missing comma is called so, a sign that begins nothing is shown, and of a long word a message has the beginning."""
-    page = desk.page
     long = "a" * 5000
     desk.open_source("wrong.asm", f"MOV R1 5\nMOV\u00a0R1, 5\nstring \u201cHi\u201d\n{long}")
-    said = page.answer("sourceField.rows.map((row) => row.dataset.wrong ?? '')")
+    said = desk.page.answer("sourceField.rows.map((row) => row.dataset.wrong ?? '')")
     wanted = [
         "^ a comma is missing before 5",
         "^ '\\xa0' begins no name, number, string or sign",

@@ -91,7 +91,8 @@ class Talk:
             stderr=terminal,
             env=environment,
             start_new_session=True,
-            preexec_fn=lambda: _control(terminal),
+            # The terminal is the controlling one, so that Ctrl-C is a signal.
+            preexec_fn=lambda: fcntl.ioctl(terminal, termios.TIOCSCTTY, 0),
         )
         os.close(terminal)
         self._seconds = seconds
@@ -146,11 +147,6 @@ class Talk:
             self._process.send_signal(signal.SIGKILL)
             self._process.wait()
         os.close(self._reader)
-
-
-def _control(terminal: int) -> None:
-    """Makes a terminal the controlling one, so that Ctrl-C is a signal."""
-    fcntl.ioctl(terminal, termios.TIOCSCTTY, 0)
 
 
 # A loop that calls, in a procedure with a frame; it shows R0 on the LEDs.

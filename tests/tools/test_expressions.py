@@ -127,9 +127,7 @@ class ExpressionsTest(ToolTest):
 
     def test_mistakes_name_their_place(self) -> None:
         for text, told in MISTAKES:
-            with self.assertRaises(Refused) as raised:
-                Parser(text, NAMES).whole()
-            self.assertIn(told, f"{raised.exception}")
+            self.assert_raises(lambda: Parser(text, NAMES).whole(), told)
 
     def test_a_search_takes_them(self) -> None:
         made = self.file("it.orsr", record(replace(randomly.case(2).session, checkpoints=[10]).text().encode()))

@@ -12,7 +12,7 @@ from typing import Any
 from galluspa.analysis.drawing import Drawn, Mask, OpenCounts
 from galluspa.formats.recording import DISPLAY_END, DISPLAY_START
 from galluspa.formats.scripts import event_lines, read
-from galluspa.interface import Recording
+from galluspa.interface import Recording, Symbols
 from galluspa.process.cli import Refused
 from tests.tools.samples import EXAMPLES, ToolTest, tool
 from tests.tools.test_rerun import RerunsTest, script
@@ -172,6 +172,25 @@ class WhyTest(RerunsTest):
         _, why = self.told("--image", image)
         self.assertEqual(why[0], "events[16] (line 1), key 20 at count 5: dropped, since 16 keys wait")
         self.assertEqual([it.partition(" ")[0] for it in why[:4]], [f"events[{at}]" for at in range(16, 20)])
+
+    def test_a_condition_that_always_holds_fails_where_it_first_does_not(self) -> None:
+        image, events = self.named("old", CARET), ({"key": "Hi"}, {"look": "it", "when": {"count": 5000}})
+        self.file("tests/it.rerun.json", script(*events, always=["R7 <= 100", "count <= 2 and (R2 != 1 or R14 <= 0x4000)"]))
+        self.approve(image)
+        self.told("--image", image, status=0)
+        self.file("tests/it.rerun.json", script(*events, always=["R7 <= 100", "count < 2"]))
+        answers, _ = self.told("--image", image, "--recordings", self.folder)
+        broken = Recording.open(self.folder / "it.orsr", Symbols.of(image.with_suffix(".sym"))).machine().find("count == 2")
+        assert broken
+        self.assertEqual(answers, [f"always[1], count < 2, does not hold at count {broken.count:,}, before Send + 0x1C"])
+        self.assertEqual(self.told("--image", image, "--approve")[0], [f"not approved: {answers[0]}"])
+        for wrong, why in (
+            ("PC=5", "== compares"),
+            ("R1 < R2", "no search finds this alone"),
+            ("R1 < 2) or (R2 > 3", "expected"),
+        ):
+            self.file("tests/it.rerun.json", script(*events, always=["R7 < 9", wrong]))
+            self.assertRegex(self.told("--image", image)[0][0], rf"^always\[1\]: .*{why}")
 
     def test_memory_by_a_name_has_its_size(self) -> None:
         image = self.named("old", CARET)

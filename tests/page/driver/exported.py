@@ -7,6 +7,7 @@ import re
 from typing import Any
 
 from tests.page.driver.desk import Desk
+from tests.page.driver.given import ECHOES
 from tests.page.driver.shows import IS_KEPT, IS_ON
 
 
@@ -27,6 +28,13 @@ def exported(desk: Desk, name: str) -> bytes:
     """Exports the project that is open, and returns the file."""
     desk.press("export")
     return desk.saved(f"{name}.html")
+
+
+def exported_echo(desk: Desk) -> bytes:
+    """Runs a program that echoes keys, types one, exports the project, and returns the file."""
+    desk.open_source("echo.asm", ECHOES.format(more=0))
+    run_with_key(desk, "a")
+    return exported(desk, "echo")
 
 
 def project_in(file: bytes) -> dict[str, Any]:

@@ -204,21 +204,19 @@ class Visitor:
 
     def is_paused(self) -> bool:
         """Pauses the machine, if one runs. Returns whether it is paused, and was run or opened at all."""
-        page = self.who.page
-        page.answer("el('board').close(); galluspa.frame()?.on && el('run').click()")
+        self.who.page.answer("el('board').close(); galluspa.frame()?.on && el('run').click()")
         time.sleep(0.5)
-        return bool(page.answer("galluspa.frame() && !galluspa.frame().on"))
+        return bool(self.who.page.answer("galluspa.frame() && !galluspa.frame().on"))
 
     def save(self) -> None:
         """The recording that the page saves is accepted."""
-        page = self.who.page
         for old in self.who.folder.glob("*.orsr"):
             old.unlink()
         if not self.is_paused():
             return
         self.done.append("saves")
-        page.answer("el('own-line').textContent = ''; el('save-recording').click()")
-        page.wait(OWN_JUDGED)
+        self.who.page.answer("el('own-line').textContent = ''; el('save-recording').click()")
+        self.who.page.wait(OWN_JUDGED)
         time.sleep(0.5)
         for path in self.who.folder.glob("*-live.orsr"):
             if program("check", path.read_bytes())[1]:

@@ -9,8 +9,8 @@ from itertools import product
 
 from galluspa.analysis.valueconditions import stated, tested
 from galluspa.analysis.conditionwords import ANDS, ORS, PC_WORDS, WANTED_NUMBER, Words, place_of, range_of
-from galluspa.analysis.expressions import Moment, Node
-from galluspa.analysis.expressiontexts import literal
+from galluspa.analysis.expressions import Moment, Node, negated
+from galluspa.analysis.expressiontexts import Parser, literal
 from galluspa.analysis.rawconditions import (
     BECOMES,
     CHANGE,
@@ -110,6 +110,15 @@ def conditions_of(words: Sequence[str], symbols: Symbols = NONE, there: Raw | No
         if sum(len(it.raws) for it in conditions) > MOST_CONDITIONS:
             raise Refused(f"more than {MOST_CONDITIONS} conditions; each kind of input is one")
     return conditions
+
+
+def breaking(text: str, symbols: Symbols = NONE) -> Condition:
+    """Returns the condition that a comparison does not hold. Refused if a text is not a comparison, or if no search finds where it
+    does not hold."""
+    try:
+        return _all_of([_compared(negated(Parser(text, symbols).whole()), f"not ({text})")], None)
+    except ValueError as why:
+        raise Refused(f"not ({shown(text)}): {why}") from why
 
 
 def _condition(words: Words, there: Raw | None) -> Condition:

@@ -49,11 +49,8 @@ def parser() -> Parser:
     what.add_argument(
         "--reference", action="store_true", help="print the page that explains the language, in Markdown; it needs no source"
     )
-    options.add_argument(
-        "--symbols",
-        metavar="FILE",
-        type=Output,
-        help="write a symbol file, too: the labels, the constants, and the line of each instruction",
+    options.add_file(
+        "--symbols", "FILE", "write a symbol file, too: the labels, the constants, and the line of each instruction", kind=Output
     )
     options.add_machine_options()
     options.add_limit_option("look for an end of the run for this many seconds, if the source says `until`")

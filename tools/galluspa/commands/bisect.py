@@ -97,15 +97,8 @@ def parser() -> Parser:
     )
     options.add_argument("session", metavar="SESSION", type=Path, help="a session, or a recording")
     add_command(options)
-    options.add_number(
-        "--from",
-        "N",
-        0,
-        COUNTS,
-        "a count at which the two are the same, such as that of the last true checkpoint (default 0)",
-        dest="first",
-        default=0,
-    )
+    does = "a count at which the two are the same, such as that of the last true checkpoint (default 0)"
+    options.add_number("--from", "N", 0, COUNTS, does, dest="first", default=0)
     options.add_number("--to", "N", 1, COUNTS, "the last count to try (default: that of the last checkpoint)")
     options.add_number(
         "--every",

@@ -47,15 +47,9 @@ def parser() -> Parser:
         },
     )
     options.add_argument("recording", metavar="FILE", type=Path, help="a recording, or a session")
-    options.add_number(
-        "--steps",
-        "N",
-        1,
-        COUNTS,
-        f"examine N instructions before the false checkpoint one by one, and a tenth of that after "
-        f"it (default {STEPS:,}; some ten thousand take a second)",
-        default=STEPS,
-    )
+    after = f"and a tenth of that after it (default {STEPS:,}; some ten thousand take a second)"
+    does = f"examine N instructions before the false checkpoint one by one, {after}"
+    options.add_number("--steps", "N", 1, COUNTS, does, default=STEPS)
     options.add_number("--words", "N", 0, WORDS, f"print at most N words of memory (default {WORDS_SHOWN})", default=WORDS_SHOWN)
     add_stack_limit_option(options)
     options.add_symbols_option()

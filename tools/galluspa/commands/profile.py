@@ -37,12 +37,7 @@ def parser() -> Parser:
     options.add_argument("recording", metavar="RECORDING", type=Path)
     options.add_number("--from", "N", 0, COUNTS, "the count to begin at (default 0)", dest="first", default=0)
     options.add_number("--to", "N", 0, COUNTS, "the count to end at (default: that of the last checkpoint)")
-    options.add_argument(
-        "--against",
-        metavar="OTHER",
-        type=Path,
-        help="print what differs from the same counts of another recording, procedure by procedure",
-    )
+    options.add_file("--against", "OTHER", "print what differs from the same counts of another recording, procedure by procedure")
     add_stack_limit_option(options)
     options.add_symbols_option()
     options.add_limit_option("end after this many seconds")

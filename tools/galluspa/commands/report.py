@@ -36,11 +36,10 @@ def parser() -> Parser:
     )
     options.add_argument("recording", metavar="RECORDING", type=Path)
     options.add_number("--at", "N", 0, COUNTS, "open the page at count N")
-    options.add_argument(
+    options.add_file(
         "--note",
-        metavar="FILE",
-        type=Path,
-        help=f"pin the text in this file, of at most {live.LONGEST_NOTE:,} bytes, to count N, or else to the first false "
+        "FILE",
+        f"pin the text in this file, of at most {live.LONGEST_NOTE:,} bytes, to count N, or else to the first false "
         "checkpoint, or the last one",
     )
     options.add_repeatable(

@@ -45,40 +45,28 @@ def parser() -> Parser:
         {OK: "all is as approved, or is approved now", WRONG: "something is not as approved, or has not been approved yet"},
     )
     options.add_argument("folder", metavar="FOLDER", type=Path, help="a folder of stored sessions, or one of them")
-    options.add_argument(
-        "--image",
-        metavar="FILE",
-        type=Path,
-        help="run all on this image: the initial state of a session or a recording, or a raw image of the memory",
+    options.add_file(
+        "--image", "FILE", "run all on this image: the initial state of a session or a recording, or a raw image of the memory"
     )
     options.add_number("--at", "ADDRESS", 0, MEMORY_BYTES, "the byte address where a raw image begins (default 0)")
     options.add_repeatable("--set", "NAME=VALUE", "a number of the initial state: R0 to R15, H, PC (in words), flags, rate, phase")
     options.add_flag("--approve", "approve the results of this run, in place of those approved before")
-    options.add_argument(
+    options.add_file(
         "--before",
-        metavar="FILE",
+        "FILE",
+        "the image of the version that was approved, as --image names one: say what that version did where this one differs",
         dest="earlier",
-        type=Path,
-        help="the image of the version that was approved, as --image names one: say what that version did where this one differs",
     )
-    options.add_number(
-        "--still",
-        "N",
-        0,
-        COUNTS,
-        "of a session or a recording, look at the machine once nothing that a user sees changed for N instructions, after "
-        f"its last checkpoint (default {STILL:,}); with 0, look at its last checkpoint",
-        default=STILL,
-    )
+    after = f"after its last checkpoint (default {STILL:,}); with 0, look at its last checkpoint"
+    does = f"of a session or a recording, look at the machine once nothing that a user sees changed for N instructions, {after}"
+    options.add_number("--still", "N", 0, COUNTS, does, default=STILL)
     options.add_flag(
         "--polled",
         "of a session or a recording, give each input when the machine polls it, from its count on, and not at its count",
     )
     options.add_flag("--checkpoints", "look at each checkpoint of a session or a recording, too")
     options.add_flag("--script", "print the script of one session or recording, to write events into, and run nothing")
-    options.add_argument(
-        "--recordings", metavar="INTO", type=Path, help="write the recording of each run into this folder, with the counts found"
-    )
+    options.add_file("--recordings", "INTO", "write the recording of each run into this folder, with the counts found")
     add_jobs_option(options, "run")
     options.add_limit_option("end the run of a session after this many seconds; it is then not as approved")
     add_output_options(options)

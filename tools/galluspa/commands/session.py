@@ -2,7 +2,6 @@
 
 from argparse import Namespace
 from collections.abc import Sequence
-from pathlib import Path
 from textwrap import dedent
 
 from galluspa.analysis import endings
@@ -26,7 +25,7 @@ def parser() -> Parser:
         ),
         "galluspa session --memory memory.bin --set PC=64 --set R14=0x80000 --inputs inputs.csv --every 1000 --until " "20000",
     )
-    options.add_argument("--memory", metavar="IMAGE", type=Path, help="a raw image of the initial memory, 1 MB or less")
+    options.add_file("--memory", "IMAGE", "a raw image of the initial memory, 1 MB or less")
     options.add_number("--at", "ADDRESS", 0, MEMORY_BYTES, "the byte address where the image begins (default 0)", default=0)
     options.add_repeatable(
         "--set",
@@ -34,7 +33,7 @@ def parser() -> Parser:
         "a number of the initial state: R0 to R15, H, PC (in words, or a name of a symbol file), "
         "flags (as NZ, or a number), rate, phase",
     )
-    options.add_argument("--inputs", metavar="CSV", type=Path, help="the inputs: count, kind, value per line")
+    options.add_file("--inputs", "CSV", "the inputs: count, kind, value per line")
     options.add_argument("--checkpoints", metavar="N,N,..", help="the counts of the checkpoints")
     options.add_number("--every", "N", 1, COUNTS, "make a checkpoint every N instructions, up to --until or the end of the run")
     options.add_number("--until", "N", 1, COUNTS, "make the last checkpoint at N or before")
@@ -48,7 +47,7 @@ def parser() -> Parser:
     options.add_number(
         "--most", "N", 1, COUNTS, f"look for the stop or the loop up to count N (default {LONGEST_RUN:,})", default=LONGEST_RUN
     )
-    options.add_argument("--of", metavar="RECORDING", type=Path, help="take initial state, inputs and counts from a recording")
+    options.add_file("--of", "RECORDING", "take initial state, inputs and counts from a recording")
     options.add_output_option()
     options.add_symbols_option()
     options.add_machine_options()

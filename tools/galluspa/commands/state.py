@@ -51,9 +51,7 @@ def parser() -> Parser:
         "return addresses",
     )
     add_stack_limit_option(options)
-    options.add_argument(
-        "--screen", metavar="FILE", type=Output, help="draw the screen into a file: a PNG, or a PBM if its name ends with .pbm"
-    )
+    options.add_file("--screen", "FILE", "draw the screen into a file: a PNG, or a PBM if its name ends with .pbm", kind=Output)
     options.add_symbols_option()
     options.add_limit_option("end after this many seconds")
     options.add_machine_options()

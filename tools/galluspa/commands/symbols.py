@@ -1,7 +1,6 @@
 """Makes a symbol file of the list of loaded modules that Project Oberon (2013) keeps in memory."""
 
 from argparse import Namespace
-from pathlib import Path
 from textwrap import dedent
 
 from galluspa.engine.initial import without_checkpoints
@@ -28,12 +27,8 @@ def parser() -> Parser:
         ),
         "galluspa symbols --oberon system.orsr --at 2000000 -o system.sym",
     )
-    options.add_argument(
-        "--oberon",
-        metavar="FILE",
-        type=Path,
-        required=True,
-        help="a recording, a session, or an image of the memory, 1 MB or less, from address 0 on",
+    options.add_file(
+        "--oberon", "FILE", "a recording, a session, or an image of the memory, 1 MB or less, from address 0 on", required=True
     )
     options.add_number("--at", "N", 0, COUNTS, "of a recording: the count (default: that of the last checkpoint)")
     options.add_argument("-o", "--output", metavar="FILE", type=Output, help="write the symbol file, and do not print it")

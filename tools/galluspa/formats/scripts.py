@@ -28,8 +28,8 @@ STILL = 1_000_000
 LAST = "end"
 COUNT, AFTER, POLLS, SENDS, STILL_FOR, CONDITION = "count", "after", "polls", "sends", "still", "condition"
 NUMBERS, TEXTS = (COUNT, AFTER, STILL_FOR), (SENDS, CONDITION)
-LOOK, MEMORY, MASK = "look", "memory", "mask"
-MEMBERS = ("format", "version", "image", "patience", MASK, "events")
+LOOK, MEMORY, MASK, ALWAYS = "look", "memory", "mask", "always"
+MEMBERS = ("format", "version", "image", "patience", MASK, ALWAYS, "events")
 LOOK_NAME = re.compile("[A-Za-z0-9_-]{1,60}")
 BYTES = ("key", "serial")
 LARGEST = {**MOST, "x": 0x3FF, "y": 0x3FF, "keys": 7}
@@ -103,12 +103,13 @@ class Look:
 @dataclass(frozen=True)
 class Script:
     """Events in their order, the image in whose run they come, if the script names one, how long they are waited for, the parts of
-    the screen that do not count at any look, and the text that was read."""
+    the screen that do not count at any look, the conditions that hold at each instruction, and the text that was read."""
 
     events: Sequence[Input | Look]
     image: str | None = None
     patience: int = PATIENCE
     mask: Sequence[Mask] = ()
+    always: Sequence[str] = ()
     source: str = ""
 
     @cached_property
@@ -133,6 +134,8 @@ class Script:
             head["patience"] = self.patience
         if self.mask:
             head[MASK] = [it if isinstance(it, str) else list(it) for it in self.mask]
+        if self.always:
+            head[ALWAYS] = list(self.always)
         lines = [f"  {json.dumps(name)}: {json.dumps(value)}," for name, value in head.items()]
         events = ",\n".join(f"    {json.dumps(_as_object(it))}" for it in self.events)
         return "\n".join(["{", *lines, '  "events": [', events, "  ]", "}"]) + "\n"
@@ -224,6 +227,12 @@ class _Reader:
             raise self.refuse(f"{name} is not a text of one sign or more, each below 256, but {_json(value)}")
         return value
 
+    def texts(self, it: object, name: str) -> Sequence[str]:
+        """Returns the texts of an array."""
+        if not isinstance(it, list) or len(it) > 100:
+            raise self.refuse(f"{name} is not an array of at most 100 texts, but {_json(it)}")
+        return [self.text(text, f"{name}[{at}]") for at, text in enumerate(it)]
+
     def one_of(self, it: object, what: str, known: Sequence[str], beside: Sequence[str]) -> tuple[dict[str, Any], str]:
         """Returns an object, and which of the known members it has: exactly one, and perhaps some that may be beside it."""
         wanted = f"expected one of {', '.join(known)}" + (f", and perhaps {', '.join(beside)}" if beside else "")
@@ -260,15 +269,13 @@ class _Reader:
 
     def look(self, it: dict[str, Any]) -> Look:
         """Returns a look."""
-        name, memory = it[LOOK], it.get(MEMORY, [])
+        name = it[LOOK]
         if not isinstance(name, str) or not LOOK_NAME.fullmatch(name):
             raise self.refuse(f"look is {_json(name)}, and the name of a look has 1 to 60 letters, digits, - and _")
         if name.lower() in self.names:
             raise self.refuse(f"another look is called {name}")
         self.names.add(name.lower())
-        if not isinstance(memory, list) or len(memory) > 100:
-            raise self.refuse(f"memory is not an array of at most 100 texts, but {_json(memory)}")
-        words = [self.text(text, f"memory[{at}]") for at, text in enumerate(memory)]
+        words = self.texts(it.get(MEMORY, []), MEMORY)
         return Look(self.when(it.get("when"), When(STILL_FOR, STILL)), name, words, self.masks(it.get(MASK, [])))
 
     def masks(self, it: object) -> Sequence[Mask]:
@@ -335,10 +342,10 @@ def read(content: bytes) -> Script:
     if image is not None and not _is_name_of_file(image):
         raise reader.refuse(f"image is not the name of a file, but {_json(image)}")
     patience = reader.number(head.get("patience", PATIENCE), "patience", COUNTS, 1)
-    mask = reader.masks(head.get(MASK, []))
+    mask, always = reader.masks(head.get(MASK, [])), reader.texts(head.get(ALWAYS, []), ALWAYS)
     if not isinstance(events, list) or not events:
         raise reader.refuse(f"events is not an array of one event or more, but {_json(events)}")
-    return Script(reader.events(events), image, patience, mask, source)
+    return Script(reader.events(events), image, patience, mask, always, source)
 
 
 def _is_name_of_file(value: object) -> bool:

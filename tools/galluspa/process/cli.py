@@ -78,6 +78,10 @@ class Parser(argparse.ArgumentParser):
         """Adds an option whose value is a whole number from `least` to `most`, with what else argparse is to know of it."""
         self.add_argument(name, metavar=metavar, type=whole_number(least, most), help=does, **more)
 
+    def add_file(self, name: str, metavar: str, does: str, kind: type[Path] | type[Output] = Path, **more: Any) -> None:
+        """Adds an option that names a file to read, or an Output."""
+        self.add_argument(name, metavar=metavar, type=kind, help=does, **more)
+
     def add_flag(self, name: str, does: str) -> None:
         """Adds an option without a value, which is False unless it is given."""
         self.add_argument(name, action="store_true", help=does)

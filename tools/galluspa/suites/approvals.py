@@ -135,7 +135,7 @@ def has_these_masks(approved: Approved, ran: Rerun) -> bool:
 
 def differences(approved: Approved, ran: Rerun) -> Differences:
     """Returns in what a run differs from what is approved."""
-    lines, screens, others = [ran.never] if ran.never else [], dict[str, Dots](), list[str]()
+    lines, screens, others = [ran.failure] if ran.failure else [], dict[str, Dots](), list[str]()
     looks = {look.name: look for look in ran.looks}
     lines += [f"no look {name}, which is approved" for name in approved.looks if name not in looks]
     for name, look in looks.items():

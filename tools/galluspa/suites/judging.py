@@ -100,8 +100,8 @@ class Judge:
 
     def approve(self, case: Case, ran: Rerun) -> str:
         """Writes what is seen as approved, also over invalid golden files, and says what changed."""
-        if ran.never:
-            raise Refused(f"not approved: {ran.never}")
+        if ran.failure:
+            raise Refused(f"not approved: {ran.failure}")
         folder, top = approvals.folder_of(case.path), self.shelf.top
         before: Approved | None = None
         found = Differences()
@@ -119,7 +119,7 @@ class Judge:
 def answered(it: Judged) -> str:
     """Returns how a run compares with what was approved, in a line."""
     if not it.approved:
-        return it.ran.never or f"{NOT_YET}: --approve writes what is seen"
+        return it.ran.failure or f"{NOT_YET}: --approve writes what is seen"
     return told(it.found) if it.found.lines else f"{AS_APPROVED} ({size(it.ran)})"
 
 

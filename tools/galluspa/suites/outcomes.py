@@ -22,14 +22,14 @@ def add_jobs_option(options: Parser, does: str) -> None:
 
 def add_output_options(options: Parser) -> None:
     """Adds the options that name files to write."""
-    options.add_argument("--keep", metavar="FILE", type=Output, help="write the answers and times to a file, as JSON")
+    options.add_file("--keep", "FILE", "write the answers and times to a file, as JSON", kind=Output)
     options.add_argument(
         "--changed-since",
         metavar="FILE",
         dest="before",
         help="report what changed and what got slower since the run that --keep wrote to FILE",
     )
-    options.add_argument("--junit", metavar="FILE", type=Output, help="write the results as JUnit XML, which CI systems read")
+    options.add_file("--junit", "FILE", "write the results as JUnit XML, which CI systems read", kind=Output)
 
 
 def reported(asked: Namespace, outcomes: Iterable[Outcome], of: int) -> int:

@@ -8,19 +8,23 @@ from contextlib import contextmanager
 from dataclasses import dataclass, field, replace
 
 from galluspa.analysis.addresses import MEMORY_WORDS, address_in_memory, address_node, words_asked
-from galluspa.analysis.conditions import conditions_of
+from galluspa.analysis.conditions import breaking, conditions_of
 from galluspa.analysis.drawing import Drawn, Mask
 from galluspa.analysis.expressions import Moment
+from galluspa.analysis.rawconditions import Condition
+from galluspa.analysis.search import Search
 from galluspa.formats.screens import picture
-from galluspa.engine.library import Library
+from galluspa.engine.library import Library, ignore
 from galluspa.engine.machine import Inputs, Machine
 from galluspa.engine.program import Program
+from galluspa.engine.tracing import Run
 from galluspa.formats import recording
 from galluspa.formats.recording import STOPS as STOP_NAMES, WORDS, Checkpoint, Recording
-from galluspa.formats.scripts import CONDITION, COUNT, MEMORY, Input, Look, Script, When
+from galluspa.formats.scripts import ALWAYS, CONDITION, COUNT, MEMORY, Input, Look, Script, When
 from galluspa.formats.sessions import COUNTS, Session
 from galluspa.formats.symbols import Symbols
 from galluspa.process.cli import Refused
+from galluspa.process.escapes import printable
 from galluspa.suites.boots import Boots
 from galluspa.suites.playing import Never, Playing
 
@@ -58,7 +62,8 @@ class Ended:
 @dataclass(frozen=True)
 class Rerun:
     """A run of a script: its recording, what is seen at its looks, all bytes sent, whether it has inputs, and why it ended
-    early, if it did; which procedures that masks name are never called, and which keys the full queue dropped."""
+    early, if it did; which procedures that masks name are never called, which keys the full queue dropped, and where a condition
+    does not hold that always should."""
 
     text: bytes
     looks: Sequence[Seen]
@@ -67,11 +72,12 @@ class Rerun:
     ended: Ended | None = None
     uncalled: Sequence[str] = ()
     dropped: Sequence[str] = ()
+    broken: str = ""
 
     @property
-    def never(self) -> str:
-        """Returns which event never comes, in a line; nothing if all came."""
-        return self.ended.told if self.ended else ""
+    def failure(self) -> str:
+        """Returns which event never comes, or which condition does not always hold, in a line; nothing if all is well."""
+        return self.ended.told if self.ended else self.broken
 
 
 @dataclass
@@ -85,7 +91,7 @@ class Rerunner:
     def run(self, start: Session, script: Script, symbols: Symbols) -> Rerun:
         """Returns the run of a script from the initial state of a session. Raises Refused if no recording holds it, or if a
         condition or an address of the script is none."""
-        refuse_mistakes(script, symbols)
+        always = refuse_mistakes(script, symbols)
         alone = replace(start, inputs=[], checkpoints=[])
         origin = alone.text()
         machine = self.library.claim(self.program.recorded(origin.encode()), 0)
@@ -122,7 +128,17 @@ class Rerunner:
         named = {part: at for _, look in taken for part, at in playing.procedures(look).items()}
         uncalled = [part for part, at in named.items() if at not in called]
         dropped = [f"{script.place(it.at)}, {it}" for it in playing.dropped]
-        return Rerun(text, looks, sent, bool(playing.inputs), ended, uncalled, dropped)
+        return Rerun(text, looks, sent, bool(playing.inputs), ended, uncalled, dropped, self._broken(read, always, script, symbols))
+
+    def _broken(self, read: Recording, always: Sequence[Condition], script: Script, symbols: Symbols) -> str:
+        """Returns where one of the conditions that break a script's first holds in a run, in a line; nothing if none does."""
+        run, end = Run(self.library, read, range(len(read.checkpoints))), read.checkpoints[-1].count
+        hit = Search(run, always, 0, end, tell=ignore).first() if always else None
+        if hit is None:
+            return ""
+        at, pc = always.index(hit.condition), hit.step.before.pc
+        place = symbols.text(4 * pc) or f"PC {pc}"
+        return f"{ALWAYS}[{at}], {printable(script.always[at])}, does not hold at count {hit.count:,}, before {place}"
 
     def _play(self, playing: Playing, event: Input | Look, origin: str) -> None:
         """Finds the count of the next event. Raises Never if it does not come."""
@@ -151,7 +167,7 @@ class Rerunner:
         stop = f"stopped ({STOP_NAMES[claim.stop]})" if claim.stop else STOP_NAMES[0]
         memory = []
         for at, asked in enumerate(look.memory):
-            with _placed(script, look, f"{MEMORY}[{at}]"):
+            with _placed(f"{script.place(look.at)}: {MEMORY}[{at}]"):
                 memory.append(_words(read, claim, asked, symbols))
         drawn = by_names.bitmap if by_names else b""
         whole = Mask(bytes(one | other for one, other in zip(mask.bitmap, by_names.bitmap))) if mask or by_names else None
@@ -159,23 +175,29 @@ class Rerunner:
 
 
 @contextmanager
-def _placed(script: Script, event: Input | Look, member: str) -> Iterator[None]:
-    """Names the event and its member in what is refused."""
+def _placed(place: str) -> Iterator[None]:
+    """Names the place in the script in what is refused."""
     try:
         yield
     except Refused as why:
-        raise Refused(f"{script.place(event.at)}: {member}: {why}") from why
+        raise Refused(f"{place}: {why}") from why
 
 
-def refuse_mistakes(script: Script, symbols: Symbols) -> None:
-    """Refuses a script with an invalid condition or address, before anything runs."""
+def refuse_mistakes(script: Script, symbols: Symbols) -> Sequence[Condition]:
+    """Refuses a script with an invalid condition or address, before anything runs. Returns the conditions that break those that
+    always hold."""
     for event in script.events:
         if event.when.member == CONDITION:
-            with _placed(script, event, f"{CONDITION} of when"):
+            with _placed(f"{script.place(event.at)}: {CONDITION} of when"):
                 conditions_of([str(event.when.value)], symbols)
         for at, asked in enumerate(event.memory if isinstance(event, Look) else ()):
-            with _placed(script, event, f"{MEMORY}[{at}]"):
+            with _placed(f"{script.place(event.at)}: {MEMORY}[{at}]"):
                 address_node(words_asked(asked)[0], symbols)
+    found = []
+    for at, text in enumerate(script.always):
+        with _placed(f"{ALWAYS}[{at}]"):
+            found.append(breaking(text, symbols))
+    return found
 
 
 def _look_last(playing: Playing, why: Never) -> None:

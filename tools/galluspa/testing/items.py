@@ -100,7 +100,7 @@ class RecordingFile(pytest.File):
 def _differences(judged: Judged) -> Iterator[str]:
     """Yields in what a run differs from what was approved, as pytest shows two texts that differ."""
     if not judged.approved:
-        yield judged.ran.never or f"{NOT_YET}: --galluspa-approve writes what is seen"
+        yield judged.ran.failure or f"{NOT_YET}: --galluspa-approve writes what is seen"
     for line in judged.found.lines:
         yield line
     if judged.approved and (sent := approvals.text_of(judged.ran.sent)) != judged.approved.sent:
