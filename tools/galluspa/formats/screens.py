@@ -1,7 +1,12 @@
 """Screens as the program draws them, in binary PBM, and one of them as a PNG."""
 
+import importlib
 import struct
+import sys
 import zlib
+from types import ModuleType
+
+from galluspa.process.cli import Refused
 
 WIDTH, HEIGHT = 1024, 768
 # How a screen begins, as the program draws it.
@@ -21,3 +26,13 @@ def picture(pbm: bytes) -> bytes:
 
 def _chunk(kind: bytes, content: bytes) -> bytes:
     return struct.pack(">I", len(content)) + kind + content + struct.pack(">I", zlib.crc32(kind + content))
+
+
+def pillow() -> ModuleType:
+    """Returns the module of pictures of Pillow: imported on first use, so that all else runs without it."""
+    try:
+        return importlib.import_module("PIL.Image")
+    except ModuleNotFoundError as error:
+        is_apart = sys.prefix != sys.base_prefix
+        advice = "pip install Pillow" if is_apart else "apt-get install python3-pil"
+        raise Refused(f"{sys.executable} has no {error.name}: {advice}") from error

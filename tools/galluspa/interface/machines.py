@@ -21,11 +21,12 @@ from galluspa.engine.program import Program
 from galluspa.engine.tracing import Run, RunFrom, Step
 from galluspa.formats import recording as recordings
 from galluspa.formats.recording import MEMORY_BYTES, Checkpoint as State
+from galluspa.formats.screens import pillow
 from galluspa.formats.sessions import COUNTS
 from galluspa.interface.names import Symbols
 from galluspa.interface.origins import Origin
 from galluspa.interface.verdicts import Buffer, content, number
-from galluspa.process.cli import Refused, pillow
+from galluspa.process.cli import Refused
 
 if TYPE_CHECKING:
     from PIL.Image import Image

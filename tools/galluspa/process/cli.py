@@ -3,7 +3,6 @@
 import argparse
 import contextlib
 import errno
-import importlib
 import io
 import os
 import signal
@@ -12,7 +11,7 @@ import sys
 import threading
 from collections.abc import Callable, Iterable, Iterator, Mapping, Sequence
 from pathlib import Path
-from types import FrameType, ModuleType
+from types import FrameType
 from typing import Any, BinaryIO, NoReturn
 
 from galluspa.process import children
@@ -118,12 +117,8 @@ class Parser(argparse.ArgumentParser):
 
     def add_symbols_option(self) -> None:
         """Adds the option that names the file that gives names to addresses."""
-        self.add_argument(
-            "--symbols",
-            metavar="FILE",
-            type=Path,
-            help="show the names that this symbol file gives to addresses (default: NAME.sym beside the file, if it is " "there)",
-        )
+        does = "show the names that this symbol file gives to addresses (default: NAME.sym beside the file, if it is there)"
+        self.add_file("--symbols", "FILE", does)
 
     def add_limit_option(self, what: str) -> None:
         """Adds the option that bounds the time; `what` says of what, and what the tool answers at its end."""
@@ -336,16 +331,6 @@ def write_bytes(content: bytes) -> None:
     if sys.stdout.isatty():
         raise Refused("the output is not text: write it into a file, with > FILE")
     sys.stdout.buffer.write(content)
-
-
-def pillow() -> ModuleType:
-    """Returns the module of pictures of Pillow: imported on first use, so that all else runs without it."""
-    try:
-        return importlib.import_module("PIL.Image")
-    except ModuleNotFoundError as error:
-        is_apart = sys.prefix != sys.base_prefix
-        advice = "pip install Pillow" if is_apart else "apt-get install python3-pil"
-        raise Refused(f"{sys.executable} has no {error.name}: {advice}") from error
 
 
 def run(main: Callable[[Sequence[str]], int]) -> NoReturn:

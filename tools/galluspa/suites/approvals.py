@@ -13,10 +13,10 @@ from itertools import zip_longest
 from pathlib import Path
 
 from galluspa.analysis.drawing import Dots, dots_differing
-from galluspa.formats.screens import HEAD, HEADER, HEIGHT, WIDTH, picture
+from galluspa.formats.screens import HEAD, HEADER, HEIGHT, WIDTH, picture, pillow
 from galluspa.formats import states
 from galluspa.formats.scripts import LOOK_NAME
-from galluspa.process.cli import Refused, pillow, read_file, write_files
+from galluspa.process.cli import Refused, read_file, write_files
 from galluspa.process.escapes import printable
 from galluspa.suites.reruns import Rerun, Seen
 
