@@ -153,6 +153,12 @@ class Page:
         """Lets the reader prefer a color scheme: light or dark."""
         self._ask("Emulation.setEmulatedMedia", features=[{"name": "prefers-color-scheme", "value": scheme}])
 
+    def screenshot(self, width: int, height: int) -> bytes:
+        """Returns a picture of the page in a window of this size, as PNG."""
+        self.resize(width, height)
+        self.answer("Promise.all([...document.images].map(it => it.decode()))")
+        return base64.b64decode(self._ask("Page.captureScreenshot", format="png")["data"])
+
     def leave(self, path: Path) -> None:
         """Writes the whole page as it is seen to PATH.png, and what its console said to PATH.txt."""
         path.with_suffix(".txt").write_text("".join(f"{line}\n" for line in (self.url, *self.errors)))
