@@ -44,7 +44,8 @@ def test_play(desk: Desk) -> None:
     page.wait("galluspa.cursor() > 8000000")
     page.answer("el('cursor').focus()")
     page.press("[")
-    page.wait(f"galluspa.cursor() <= 8000000 && {EXACT}")
+    # At full speed the last checkpoint may be another one by then.
+    page.wait(f"[8000000, 12000000].includes(galluspa.cursor()) && {EXACT}")
 
 
 def test_go_to_hits(desk: Desk) -> None:
