@@ -55,7 +55,7 @@ enum {
     GALLUSPA_TOO_MANY_PAGES = 9,       /* .. more than 65,536 pages */
     GALLUSPA_PENDING_INPUTS = 10,      /* the recording has inputs at or after its last checkpoint */
     GALLUSPA_NOT_FOUND = 11,           /* of galluspa_find and galluspa_past_find: no condition holds at any of the counts */
-    GALLUSPA_MORE = 12,                /* of a galluspa_past: the budget is spent; call again to go on */
+    GALLUSPA_MORE = 12,                /* of a galluspa_past: a part is done; call again to go on */
     GALLUSPA_CLOSED = 13,              /* of a galluspa_past: none is open */
     GALLUSPA_LATER = 14                /* of a galluspa_past: a count is after its end */
 };
@@ -378,8 +378,9 @@ uint8_t galluspa_calls(galluspa_state *state, uint32_t *words, size_t words_len,
  * Close it to free its memory. A past serves one call at a time, of any thread; different pasts may be called at the same time.
  *
  * Memory: a past holds 1,024 bytes for each page that differs from the keyframe before, 4,400 bytes for each keyframe, 16 for each
- * input, and during a call what galluspa_advance holds twice. Keyframes are added as they are needed, and none is dropped. If an
- * allocation fails, the call returns GALLUSPA_OUT_OF_MEMORY; the past stays open, of the same run, and what it has found out is kept. */
+ * input, and during a call what galluspa_advance holds twice. Keyframes are added as they are needed; only galluspa_past_cut drops
+ * some, and keeps their pages. If an allocation fails, the call returns GALLUSPA_OUT_OF_MEMORY; the past stays open, of the same run,
+ * and what it has found out is kept. */
 typedef struct {
     void *past;       /* the library's */
     uint64_t is_open; /* 0 if no past is open */
@@ -407,7 +408,7 @@ typedef struct {
     uint64_t end;       /* the last count that can be asked about */
     uint64_t reached;   /* the count of the last keyframe: an answer about a count far after it has to run first */
     uint64_t keyframes; /* how many keyframes it has */
-    uint64_t pages;     /* how many pages these have */
+    uint64_t pages;     /* how many pages it holds, with those of keyframes that a cut dropped */
     uint64_t inputs;    /* how many inputs it has */
 } galluspa_extent;
 
