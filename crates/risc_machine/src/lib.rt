@@ -13,6 +13,7 @@ mod counters;
 mod decode_cache;
 mod decoded_op;
 mod destination;
+mod detached;
 mod dispatch;
 mod follow;
 mod follower;
@@ -41,6 +42,7 @@ mod watch;
 
 pub use call_log::CallLog;
 pub use counters::Counters;
+pub use detached::DetachedMachine;
 pub use laws::capacity_law;
 pub use machine::Machine;
 pub use risc_model::{

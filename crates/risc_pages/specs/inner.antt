@@ -2,3 +2,4 @@
 -- contracts see types pass through some of them; the contracts of the getters, which are public, say what a view shows. So nobody
 -- has to believe these definitions.
 pub mod Slots
+pub mod Detached

@@ -7,6 +7,7 @@
 //! This crate has pages, pools, tables, memories, and the changes of a memory. Addresses, bytes and devices are elsewhere.
 #![tactic(auto)]
 
+mod detached;
 mod laws;
 mod memory;
 mod page;
@@ -15,6 +16,7 @@ mod sizes;
 mod slot;
 mod table;
 
+pub use detached::DetachedMemory;
 pub use laws::sizes_law;
 pub use memory::{Delta, Memory};
 pub use page::Page;

@@ -6,6 +6,7 @@ ghost use Rattle.risc_pages.specs.Tables.{table_words, IsContent, IsNamed};
 ghost use Rattle.risc_pages.specs.Contents.{IsMemory};
 ghost use Rattle.risc_pages.specs.Delta.{changed_slots, AreDifferences, IsDelta, IsFirstDifferentPage};
 
+use crate::detached::DetachedMemory;
 use crate::page::Page;
 use crate::pool::Pool;
 use crate::sizes::{PAGE_SLOTS, PAGE_WORDS};
@@ -27,8 +28,8 @@ pub struct Delta {
 /// made with. It borrows its pool, which it never changes.
 #[derive(Drop)]
 pub struct Memory<'a> {
-    slots: Vec<Slot<'a>>,
-    alloc: Global,
+    pub(crate) slots: Vec<Slot<'a>>,
+    pub(crate) alloc: Global,
 }
 
 impl<'a> Model for Memory<'a> {
@@ -199,6 +200,28 @@ impl<'a> Memory<'a> {
             }
         }
         Ok(changed)
+    }
+
+    /// Returns the page slots whose content differs from the table that the memory was made from, with their pages.
+    pub fn delta(&self) -> Result<Delta, AllocError>
+        ensures delta { IfOk result (λ delta. IsDelta self.now.base self.now.words delta.changed.items) }
+        ensures differences { IfOk result (λ d. AreDifferences self.now.base self.now.words (changed_slots d.changed.items)) }
+    {
+        let changed = self.changes()?;
+        Ok(Delta { changed })
+    }
+
+    /// Returns the memory without its pool. It copies the private pages, and no others. Consumes the memory, also if there is no
+    /// memory for the copies.
+    pub fn detach(self) -> Result<DetachedMemory, AllocError>
+        ensures { IfOk result (λ detached. detached ≡ self.entry) }
+    {
+        let mut slots = Vec::with_capacity(self.alloc, PAGE_SLOTS as usize)?;
+        for slot in 0..PAGE_SLOTS {
+            let detached = self.slots[slot as usize].detach(self.alloc)?;
+            slots.push_reserved(detached);
+        }
+        Ok(DetachedMemory { slots })
     }
 
     /// Returns the page slots whose content differs from the table that the memory was made from, with their pages. Consumes the

@@ -1,14 +1,17 @@
 //! A page slot of a memory: a shared page of the pool, or a private page. No contract that callers of this crate see mentions it.
 
 ghost use Rattle.std.specs.Prelude.{◌≡◌, ◌≢◌, ◌↔◌, ◌<◌, ◌≤◌, ℕ, length, slice_set};
-ghost use Rattle.std.specs.Prelude.{IsTrue, IfNone, IfSome, OnOk, OnErr, true, false};
+ghost use Rattle.std.specs.Prelude.{IsTrue, IfNone, IfOk, IfSome, OnOk, OnErr, true, false};
 ghost use Rattle.risc_pages.specs.declared.sizes.TheConstants.{PAGE_WORDS};
 ghost use Rattle.risc_pages.specs.Pages.{page_of, ArePages};
 ghost use Rattle.risc_pages.specs.inner.Slots.{content, base_of, TakesCopy};
+ghost use Rattle.risc_pages.specs.inner.Detached.{IsSameSlot};
 
+use crate::detached::{DetachedPage, DetachedSlot};
 use crate::page::{Blank, Page};
 use crate::pool::Pool;
 use std::alloc::{AllocError, Global};
+use std::snapshot::Snapshot;
 
 /// The page in a slot of a memory.
 #[derive(Drop)]
@@ -69,6 +72,22 @@ impl<'a> Slot<'a> {
         match self {
             Slot::Owned(own) if own.page.words != own.base.words => Some(&own.page),
             _ => None,
+        }
+    }
+
+    /// Returns the slot without the pool. A private page is copied.
+    pub(crate) fn detach(&self, alloc: Global) -> Result<DetachedSlot, AllocError>
+        ensures { IfOk result (IsSameSlot self.now) }
+    {
+        match self {
+            Slot::Blank(blank) => Ok(DetachedSlot::Shared(Snapshot::of(&blank.page))),
+            Slot::Shared(page) => Ok(DetachedSlot::Shared(Snapshot::of(*page))),
+            Slot::Owned(own) => {
+                let base = Snapshot::of(own.base);
+                let page = own.page;
+                let detached = Box::new(alloc, DetachedPage { page, base })?;
+                Ok(DetachedSlot::Owned(detached))
+            }
         }
     }
 }

@@ -1,0 +1,13 @@
+use Rattle.std.proofs.Common.{◌≡◌, ℕ, ◌<◌, ◌≤◌, get_or, length}
+use Rattle.std.specs.Vec.{vec_capacity}
+use Rattle.risc_pages.specs.declared.detached.DetachedSlot.{DetachedSlot}
+use Rattle.risc_pages.specs.declared.slot.Slot.{Slot}
+use Rattle.risc_pages.specs.inner.Detached.{IsSameSlot}
+use Rattle.risc_pages.proofs.detached.DetachedMemory.attach.Given as goal
+
+abbrev pub invariant-loop-slot : goal.invariant-loop-slot
+invariant-loop-slot l = record {
+  room : 1024 ≤ vec_capacity l.slots;
+  count : length l.slots.items ≡ l.slot;
+  same : (k : ℕ) (d : Slot) (e : DetachedSlot) → k < length l.slots.items → IsSameSlot (get_or l.slots.items k d) (get_or l.self-inside.slots.items k e);
+}
