@@ -207,8 +207,9 @@ impl<'a> Memory<'a> {
         ensures delta { IfOk result (λ delta. IsDelta self.now.base self.now.words delta.changed.items) }
         ensures differences { IfOk result (λ d. AreDifferences self.now.base self.now.words (changed_slots d.changed.items)) }
     {
-        let changed = self.changes()?;
-        Ok(Delta { changed })
+        Ok(Delta {
+            changed: self.changes()?,
+        })
     }
 
     /// Returns the memory without its pool. It copies the private pages, and no others. Consumes the memory, also if there is no
