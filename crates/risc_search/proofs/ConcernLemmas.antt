@@ -26,13 +26,14 @@ use Rattle.risc_search.specs.declared.access.Access.{Access}
 use Rattle.risc_search.specs.declared.concerns.Concerns.{Concerns}
 use Rattle.risc_search.specs.declared.condition.Clause.{Clause}
 use Rattle.risc_search.specs.declared.condition.Condition.{Condition}
-use Rattle.risc_search.specs.declared.condition.Condition.TheVariants.{Counter, Store as Stored, Change, Load as Loaded, Becomes, Sends, SendsByte, Takes, Stops, Writes, Is, IsWord}
+use Rattle.risc_search.specs.declared.condition.Condition.TheVariants.{Counter, Store as Stored, Change, Load as Loaded, Becomes, Sends, SendsByte, Takes, Stops, Writes, WritesFlags, Alters, Is, IsWord}
 use Rattle.risc_search.specs.declared.register.Register.{Register}
 use Rattle.risc_search.specs.declared.register.Register.TheVariants.{Numbered, Auxiliary, Flags}
 use Rattle.risc_search.specs.declared.span.Span.{Span}
 use Rattle.risc_search.specs.Access.{access_to, accessed, next_access, next_instruction}
 use Rattle.risc_search.specs.Changes.{Differ}
-use Rattle.risc_search.specs.Condition.{Accesses, Holds, IsNextWriting, register_value}
+use Rattle.risc_core.specs.Arithmetic.{and_word}
+use Rattle.risc_search.specs.Condition.{Accesses, Holds, IsNextWriting, masked, register_value}
 use Rattle.risc_core.specs.Written.{links, written_register}
 use Rattle.risc_search.specs.Search.{NoneIn}
 use Rattle.risc_search.specs.Span.{IsIn}
@@ -63,6 +64,8 @@ covers-more new old (SendsByte byte) more covers = tt
 covers-more new old (Takes kind) more covers = tt
 covers-more new old Stops more covers = tt
 covers-more new old (Writes register) more covers = more-register new old register more covers
+covers-more new old (WritesFlags mask) more covers = more-register new old Flags more covers
+covers-more new old (Alters register mask) more covers = more-register new old register more covers
 covers-more new old (Is register values) more all = λ pc below. more.counters pc (all pc below)
 covers-more new old (IsWord number mask values) more all = λ pc below. more.counters pc (all pc below)
 
@@ -231,6 +234,12 @@ not-becomes (Numbered n) concerns s value here (inr all) was is = not-all concer
 not-becomes Auxiliary concerns s value here all was is = not-all concerns s here all
 not-becomes Flags concerns s value here all was is = not-all concerns s here all
 
+not-altered : (register : Register) (concerns : Concerns) (s : State) → IsUnwatched (IsIgnored concerns) s → CoversRegister concerns register → register_value register (exec s).0.cpu ≡ register_value register s.cpu
+not-altered (Numbered n) concerns s here (inl named) = keeps-register concerns s n here named
+not-altered (Numbered n) concerns s here (inr all) = absurd (not-all concerns s here all)
+not-altered Auxiliary concerns s here all = absurd (not-all concerns s here all)
+not-altered Flags concerns s here all = absurd (not-all concerns s here all)
+
 -- a register that is covered is not written
 links-written : (link taken : Bool) (n : ℕ) → cond (link && taken) (Some 15) None ≡ Some n → cond link (Some 15) None ≡ Some n
 links-written true true n is = is
@@ -289,6 +298,9 @@ holds-not (SendsByte byte) concerns es at s covers quiet fed here holds = none-s
 holds-not (Takes kind) concerns es at s covers quiet fed here holds = quiet holds.1.index holds.1.inside holds.1.count
 holds-not Stops concerns es at s covers quiet fed here holds = holds.1 (ap (λ (x : State). (exec x).0.cpu.stop) fed ∙ here.goes_on)
 holds-not (Writes register) concerns es at s covers quiet fed here holds = not-writes register concerns s here covers holds.writes
+holds-not (WritesFlags mask) concerns es at s all quiet fed here holds = not-all concerns s here all
+holds-not (Alters register mask) concerns es at s covers quiet fed here holds =
+    holds (ap (λ (x : State). masked register mask (exec x).0.cpu) fed ∙ ap (λ (n : ℕ). and_word n mask) (not-altered register concerns s here covers))
 holds-not (Is register values) concerns es at s all quiet fed here holds = not-all concerns s here all
 holds-not (IsWord number mask values) concerns es at s all quiet fed here holds = not-all concerns s here all
 

@@ -1,28 +1,29 @@
 -- A condition holds at a step if it is armed before the instruction and met after it, and only then.
-use Rattle.std.proofs.Common.{refl, ◌≡◌, ◌≢◌, ◌∙◌, ◌+◌, ◌*◌, ◌/◌, ◌<◌, ℕ, Bool, false, List, Option, None, Some, length, get_or, ap, sym, subst, inl, inr}
+use Rattle.std.proofs.Common.{refl, ◌≡◌, ◌≢◌, ◌∙◌, ◌+◌, ◌*◌, ◌/◌, ◌<◌, ℕ, false, List, Option, None, Some, length, get_or, get_or-set_other, get_or-set_same, slice_set, ap, sym, subst, inl, inr, arith}
 use Rattle.std.specs.Prelude.{◌↔◌, IfNone, IfSome, IsSome, IsTrue, MatchOption}
 use Rattle.std.proofs.lemmas.Bool.{cases_eq}
 use Rattle.std.proofs.lemmas.List.{get_or_default}
 use Rattle.std.proofs.lemmas.Option.{none-some}
 use Rattle.risc_core.specs.Word.{bit}
 use Rattle.risc_model.specs.declared.event.Event.{Event}
-use Rattle.risc_model.specs.MachineState.{CpuState}
+use Rattle.risc_model.specs.MachineState.{CpuState, State}
 use Rattle.risc_search.specs.declared.access.Access.{Access}
 use Rattle.risc_search.specs.declared.condition.Clause.{Clause}
 use Rattle.risc_search.specs.declared.condition.Condition.{Condition}
-use Rattle.risc_search.specs.declared.condition.Condition.TheVariants.{Counter, Store, Change, Load, Becomes, Sends, SendsByte, Takes, Stops, Writes, Is, IsWord}
+use Rattle.risc_search.specs.declared.condition.Condition.TheVariants.{Counter, Store, Change, Load, Becomes, Sends, SendsByte, Takes, Stops, Writes, WritesFlags, Alters, Is, IsWord}
+use Rattle.risc_search.specs.declared.meeting.Armed.{Armed}
 use Rattle.risc_search.specs.declared.span.Span.{Span}
 use Rattle.risc_search.specs.declared.stored_word.StoredWord.{StoredWord}
 use Rattle.risc_search.specs.Access.{next_access}
 use Rattle.risc_search.specs.Changes.{Differ}
 use Rattle.risc_search.specs.Clauses.{HoldsFrom}
-use Rattle.risc_search.specs.Condition.{HasInput, Holds, register_value}
+use Rattle.risc_search.specs.Condition.{HasInput, Holds, masked, register_value}
 use Rattle.risc_search.specs.Search.{IsMet, NoneHolds}
 use Rattle.risc_search.specs.Span.{IsIn}
 use Rattle.risc_search.specs.Step.{Step}
 use Rattle.risc_search.specs.inner.Due.{HasKind}
 use Rattle.risc_search.proofs.ClauseLemmas.{all-hold, all-map, first-holds, holds-all}
-use Rattle.risc_search.specs.inner.Observed.{AreArmed, AreMetFrom, Differs, HasStoredAlone, IsAnswer, IsArmed, IsChange, IsMetAfter, IsMetAt, IsOnlyChange, word_stored}
+use Rattle.risc_search.specs.inner.Observed.{AreArmed, AreMetFrom, Differs, HasStoredAlone, IsAnswer, IsArmed, IsChange, IsKnown, IsMetAfter, IsMetAt, IsOnlyChange, armed_at, old_value, word_stored}
 
 -- what is observed of a step: its parts
 pub record IsObserved
@@ -65,7 +66,7 @@ differs-here bytes mask before after word change d =
     ]
 
 pub holds-of : (condition : Condition) (taken : List Event) (cpu : CpuState) (stored : Option StoredWord) (sent : Option ℕ) (es : List Event) (step : Step)
-    → IsObserved taken cpu stored sent es step → IsArmed condition step.before taken → IsMetAfter condition cpu stored sent → Holds condition es step
+    → IsObserved taken cpu stored sent es step → IsArmed condition step.before taken → IsMetAfter condition (old_value condition step.before.cpu) cpu stored sent → Holds condition es step
 holds-of (Counter words) taken cpu stored sent es step o armed met = armed
 holds-of (Store bytes) taken cpu stored sent es step o armed met = armed
 holds-of (Change bytes mask) taken cpu None sent es step o armed met = absurd met
@@ -77,6 +78,8 @@ holds-of (SendsByte byte) taken cpu stored sent es step o armed met = sym o.sent
 holds-of (Takes kind) taken cpu stored sent es step o armed met = (armed.0, (o.taken_is kind).0 armed.1)
 holds-of Stops taken cpu stored sent es step o armed met = (armed, λ same. met (ap (λ (c : CpuState). c.stop) o.cpu_is ∙ same))
 holds-of (Writes register) taken cpu stored sent es step o armed met = record { writes = armed; goes_on = ap (λ (c : CpuState). c.stop) (sym o.cpu_is) ∙ met }
+holds-of (WritesFlags mask) taken cpu stored sent es step o armed met = record { writes = armed; goes_on = ap (λ (c : CpuState). c.stop) (sym o.cpu_is) ∙ met }
+holds-of (Alters register mask) taken cpu stored sent es step o armed met = λ same. met (ap (λ (c : CpuState). masked register mask c) o.cpu_is ∙ same)
 holds-of (Is register values) taken cpu stored sent es step o armed met = armed
 holds-of (IsWord number mask values) taken cpu stored sent es step o armed met = armed
 
@@ -86,7 +89,7 @@ change-met bytes mask before after access None change there d = absurd (d.differ
 change-met bytes mask before after access (Some word) change there d = (there refl, differs-here bytes mask before after word change d)
 
 pub parts-of : (condition : Condition) (taken : List Event) (cpu : CpuState) (stored : Option StoredWord) (sent : Option ℕ) (es : List Event) (step : Step)
-    → IsObserved taken cpu stored sent es step → Holds condition es step → IsArmed condition step.before taken × IsMetAfter condition cpu stored sent
+    → IsObserved taken cpu stored sent es step → Holds condition es step → IsArmed condition step.before taken × IsMetAfter condition (old_value condition step.before.cpu) cpu stored sent
 parts-of (Counter words) taken cpu stored sent es step o holds = (holds, tt)
 parts-of (Store bytes) taken cpu stored sent es step o holds = (holds, tt)
 parts-of (Change bytes mask) taken cpu stored sent es step o holds = change-met bytes mask step.before.words step.after.words (next_access step.before.cpu step.before.words) stored o.change o.there holds
@@ -97,6 +100,8 @@ parts-of (SendsByte byte) taken cpu stored sent es step o holds = (tt, o.sent_is
 parts-of (Takes kind) taken cpu stored sent es step o holds = ((holds.0, (o.taken_is kind).1 holds.1), tt)
 parts-of Stops taken cpu stored sent es step o holds = (holds.0, λ same. holds.1 (ap (λ (c : CpuState). c.stop) (sym o.cpu_is) ∙ same))
 parts-of (Writes register) taken cpu stored sent es step o holds = (holds.writes, ap (λ (c : CpuState). c.stop) o.cpu_is ∙ holds.goes_on)
+parts-of (WritesFlags mask) taken cpu stored sent es step o holds = (holds.writes, ap (λ (c : CpuState). c.stop) o.cpu_is ∙ holds.goes_on)
+parts-of (Alters register mask) taken cpu stored sent es step o holds = (tt, λ same. holds (ap (λ (c : CpuState). masked register mask c) (sym o.cpu_is) ∙ same))
 parts-of (Is register values) taken cpu stored sent es step o holds = (holds, tt)
 parts-of (IsWord number mask values) taken cpu stored sent es step o holds = (holds, tt)
 
@@ -105,27 +110,61 @@ parts-of (IsWord number mask values) taken cpu stored sent es step o holds = (ho
 any : Clause
 any = record { condition = Sends; joined = false }
 
+-- what is known of the clauses before an index, and of the one there
+abbrev not_armed : Armed
+not_armed = record { is_armed = false; old = 0 }
+
+pub known-more : (conditions : List Clause) (s : State) (taken : List Event) (armed : List Armed) (index : ℕ) (new : Armed) → index < length armed
+    → ((d : Clause) → IsKnown (get_or conditions index d).condition s taken new) → ((k : ℕ) (d : Clause) → k < index → IsKnown (get_or conditions k d).condition s taken (armed_at armed k))
+    → (k : ℕ) (d : Clause) → k < index + 1 → IsKnown (get_or conditions k d).condition s taken (armed_at (slice_set armed index new) k)
+known-more conditions s taken armed index new inside here before k d below =
+    elim (cases_eq k index) [
+      | inl same ↦
+          subst (λ (n : ℕ). IsKnown (get_or conditions n d).condition s taken (armed_at (slice_set armed index new) n)) (sym same)
+          (subst (λ (a : Armed). IsKnown (get_or conditions index d).condition s taken a) (sym (get_or-set_same armed index new not_armed inside)) (here d))
+      | inr other ↦
+          subst (λ (a : Armed). IsKnown (get_or conditions k d).condition s taken a) (sym (get_or-set_other armed index k new not_armed other))
+          (before k d (let ne : k ≢ index = other in omega (arith, below)))
+    ]
+
+-- none of them is armed
+pub none-known : (armed : List Armed) (index : ℕ) (new : Armed) → index < length armed → ¬ (IsTrue new.is_armed) → ((k : ℕ) → k < index → ¬ (IsTrue (armed_at armed k).is_armed))
+    → (k : ℕ) → k < index + 1 → ¬ (IsTrue (armed_at (slice_set armed index new) k).is_armed)
+none-known armed index new inside here before k below =
+    elim (cases_eq k index) [
+      | inl same ↦
+          subst (λ (n : ℕ). ¬ (IsTrue (armed_at (slice_set armed index new) n).is_armed)) (sym same)
+          (subst (λ (a : Armed). ¬ (IsTrue a.is_armed)) (sym (get_or-set_same armed index new not_armed inside)) here)
+      | inr other ↦
+          subst (λ (a : Armed). ¬ (IsTrue a.is_armed)) (sym (get_or-set_other armed index k new not_armed other))
+          (before k (let ne : k ≢ index = other in omega (arith, below)))
+    ]
+
 -- what holds at an index is armed and met there
-met-there : (conditions : List Clause) (armed : List Bool) (taken : List Event) (cpu : CpuState) (stored : Option StoredWord) (sent : Option ℕ) (es : List Event) (step : Step) (k : ℕ) (d : Clause)
+met-there : (conditions : List Clause) (armed : List Armed) (taken : List Event) (cpu : CpuState) (stored : Option StoredWord) (sent : Option ℕ) (es : List Event) (step : Step) (k : ℕ) (d : Clause)
     → AreArmed conditions step.before taken armed → IsObserved taken cpu stored sent es step → k < length conditions → Holds (get_or conditions k d).condition es step → IsMetAt conditions armed cpu stored sent k
 met-there conditions armed taken cpu stored sent es step k d are o inside holds = λ e.
     let same : get_or conditions k d ≡ get_or conditions k e = get_or_default conditions k d e inside in
     let parts = parts-of (get_or conditions k e).condition taken cpu stored sent es step o (subst (λ (c : Clause). Holds c.condition es step) same holds) in
-    ((are k e inside).1 parts.0, parts.1)
+    let known = are k e inside in
+    (known.armed.1 parts.0, subst (λ (old : ℕ). IsMetAfter (get_or conditions k e).condition old cpu stored sent) (sym known.old) parts.1)
 
 -- a condition that holds is met
-met-from : (conditions : List Clause) (armed : List Bool) (taken : List Event) (cpu : CpuState) (stored : Option StoredWord) (sent : Option ℕ) (es : List Event) (step : Step) (first : ℕ)
+met-from : (conditions : List Clause) (armed : List Armed) (taken : List Event) (cpu : CpuState) (stored : Option StoredWord) (sent : Option ℕ) (es : List Event) (step : Step) (first : ℕ)
     → AreArmed conditions step.before taken armed → IsObserved taken cpu stored sent es step → HoldsFrom conditions es step first → AreMetFrom conditions armed cpu stored sent first
 met-from conditions armed taken cpu stored sent es step first are o holds =
     all-map conditions _ _ first (λ k inside held. met-there conditions armed taken cpu stored sent es step k any are o inside (held any)) (all-hold conditions es step first holds)
 
 -- and one that is met holds
-holds-from : (conditions : List Clause) (armed : List Bool) (taken : List Event) (cpu : CpuState) (stored : Option StoredWord) (sent : Option ℕ) (es : List Event) (step : Step) (first : ℕ)
+holds-from : (conditions : List Clause) (armed : List Armed) (taken : List Event) (cpu : CpuState) (stored : Option StoredWord) (sent : Option ℕ) (es : List Event) (step : Step) (first : ℕ)
     → AreArmed conditions step.before taken armed → IsObserved taken cpu stored sent es step → AreMetFrom conditions armed cpu stored sent first → HoldsFrom conditions es step first
 holds-from conditions armed taken cpu stored sent es step first are o met =
-    holds-all conditions es step first (all-map conditions _ _ first (λ k inside here d. holds-of (get_or conditions k d).condition taken cpu stored sent es step o ((are k d inside).0 (here d).0) (here d).1) met)
+    holds-all conditions es step first (all-map conditions _ _ first (λ k inside here d.
+    let known = are k d inside in
+    holds-of (get_or conditions k d).condition taken cpu stored sent es step o (known.armed.0 (here d).0)
+    (subst (λ (old : ℕ). IsMetAfter (get_or conditions k d).condition old cpu stored sent) known.old (here d).1)) met)
 
-none-met : (conditions : List Clause) (armed : List Bool) (taken : List Event) (cpu : CpuState) (stored : Option StoredWord) (sent : Option ℕ) (es : List Event) (step : Step)
+none-met : (conditions : List Clause) (armed : List Armed) (taken : List Event) (cpu : CpuState) (stored : Option StoredWord) (sent : Option ℕ) (es : List Event) (step : Step)
     → AreArmed conditions step.before taken armed → IsObserved taken cpu stored sent es step → ((k : ℕ) → k < length conditions → ¬ (AreMetFrom conditions armed cpu stored sent k)) → NoneHolds conditions es step
 none-met conditions armed taken cpu stored sent es step are o none = λ k holds. none k holds.inside (met-from conditions armed taken cpu stored sent es step k are o holds)
 
@@ -148,17 +187,19 @@ armed-of (SendsByte byte) taken es step taken_is alone holds = tt
 armed-of (Takes kind) taken es step taken_is alone holds = (holds.0, (taken_is kind).1 holds.1)
 armed-of Stops taken es step taken_is alone holds = holds.0
 armed-of (Writes register) taken es step taken_is alone holds = holds.writes
+armed-of (WritesFlags mask) taken es step taken_is alone holds = holds.writes
+armed-of (Alters register mask) taken es step taken_is alone holds = tt
 armed-of (Is register values) taken es step taken_is alone holds = holds
 armed-of (IsWord number mask values) taken es step taken_is alone holds = holds
 
 -- none is armed, so none holds
-pub none-armed : (conditions : List Clause) (armed : List Bool) (taken : List Event) (es : List Event) (step : Step)
+pub none-armed : (conditions : List Clause) (armed : List Armed) (taken : List Event) (es : List Event) (step : Step)
     → AreArmed conditions step.before taken armed → ((kind : ℕ) → HasKind kind taken ↔ HasInput kind es step.count)
-    → HasStoredAlone (next_access step.before.cpu step.before.words) step.before.words step.after.words → ((k : ℕ) → k < length conditions → ¬ (IsTrue (get_or armed k false))) → NoneHolds conditions es step
+    → HasStoredAlone (next_access step.before.cpu step.before.words) step.before.words step.after.words → ((k : ℕ) → k < length conditions → ¬ (IsTrue (armed_at armed k).is_armed)) → NoneHolds conditions es step
 none-armed conditions armed taken es step are taken_is alone none = λ k holds.
-    none k holds.inside ((are k any holds.inside).1 (armed-of (get_or conditions k any).condition taken es step taken_is alone (first-holds conditions es step k any holds)))
+    none k holds.inside ((are k any holds.inside).armed.1 (armed-of (get_or conditions k any).condition taken es step taken_is alone (first-holds conditions es step k any holds)))
 
-pub first-is_met : (conditions : List Clause) (armed : List Bool) (taken : List Event) (cpu : CpuState) (stored : Option StoredWord) (sent : Option ℕ) (es : List Event) (step : Step) (index : ℕ)
+pub first-is_met : (conditions : List Clause) (armed : List Armed) (taken : List Event) (cpu : CpuState) (stored : Option StoredWord) (sent : Option ℕ) (es : List Event) (step : Step) (index : ℕ)
     → AreArmed conditions step.before taken armed → IsObserved taken cpu stored sent es step → AreMetFrom conditions armed cpu stored sent index
     → ((k : ℕ) → k < index → ¬ (AreMetFrom conditions armed cpu stored sent k)) → IsMet conditions es step index
 first-is_met conditions armed taken cpu stored sent es step index are o met least = record {
@@ -167,7 +208,7 @@ first-is_met conditions armed taken cpu stored sent es step index are o met leas
 }
 
 -- what the tests of a step answer
-pub is_answer : (conditions : List Clause) (armed : List Bool) (taken : List Event) (cpu : CpuState) (stored : Option StoredWord) (sent : Option ℕ) (es : List Event) (step : Step) (met : Option ℕ)
+pub is_answer : (conditions : List Clause) (armed : List Armed) (taken : List Event) (cpu : CpuState) (stored : Option StoredWord) (sent : Option ℕ) (es : List Event) (step : Step) (met : Option ℕ)
     → AreArmed conditions step.before taken armed → IsObserved taken cpu stored sent es step → IfSome met (AreMetFrom conditions armed cpu stored sent)
     → IfSome met (λ index. (k : ℕ) → k < index → ¬ (AreMetFrom conditions armed cpu stored sent k)) → IfNone met ((k : ℕ) → k < length conditions → ¬ (AreMetFrom conditions armed cpu stored sent k)) → IsAnswer conditions es step met
 is_answer conditions armed taken cpu stored sent es step None are o there least none = none-met conditions armed taken cpu stored sent es step are o none

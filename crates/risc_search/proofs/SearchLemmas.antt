@@ -13,11 +13,11 @@ use Rattle.risc_model.proofs.RunLemmas.{exec-stopped, feed-stopped, run_of-over}
 use Rattle.risc_search.specs.declared.access.Access.{Access}
 use Rattle.risc_search.specs.declared.condition.Clause.{Clause}
 use Rattle.risc_search.specs.declared.condition.Condition.{Condition}
-use Rattle.risc_search.specs.declared.condition.Condition.TheVariants.{Counter, Store, Change, Load, Becomes, Sends, SendsByte, Takes, Stops, Writes, Is, IsWord}
+use Rattle.risc_search.specs.declared.condition.Condition.TheVariants.{Counter, Store, Change, Load, Becomes, Sends, SendsByte, Takes, Stops, Writes, WritesFlags, Alters, Is, IsWord}
 use Rattle.risc_search.specs.declared.hit.Hit.{Hit}
 use Rattle.risc_search.specs.declared.register.Register.{Register}
 use Rattle.risc_search.specs.Access.{next_access, next_instruction}
-use Rattle.risc_search.specs.Condition.{Holds, IsNextWriting}
+use Rattle.risc_search.specs.Condition.{Holds, IsNextWriting, IsNextWritingFlags}
 use Rattle.risc_search.specs.Search.{IsFirst, IsHit, IsLast, IsMet, NoneHolds, NoneIn}
 use Rattle.risc_search.specs.Step.{Step, step_at, step_from}
 use Rattle.risc_search.proofs.ClauseLemmas.{first-holds}
@@ -106,11 +106,17 @@ stopped-access : (t : State) (access : Access) → nat_eq t.cpu.stop 0 ≡ false
 unfolding next_access
 stopped-access t access stopped is = none-some access (rw stopped at is)
 
--- and writes no register
+-- and writes no register and no flags
 stopped-writes : (register : Register) (t : State) → nat_eq t.cpu.stop 0 ≡ false → IsNextWriting register t.cpu (next_instruction t.cpu t.words) → ⊥
 unfolding next_instruction
 stopped-writes register t stopped writes =
     let P : Bool → Type 0 = λ (b : Bool). IsNextWriting register t.cpu (cond (b && nat_lt t.cpu.pc (2 ^ 18)) (Some (instruction_of (get_or t.words t.cpu.pc 0))) None) in
+    subst P stopped writes
+
+stopped-writes-flags : (mask : ℕ) (t : State) → nat_eq t.cpu.stop 0 ≡ false → IsNextWritingFlags mask t.cpu (next_instruction t.cpu t.words) → ⊥
+unfolding next_instruction
+stopped-writes-flags mask t stopped writes =
+    let P : Bool → Type 0 = λ (b : Bool). IsNextWritingFlags mask t.cpu (cond (b && nat_lt t.cpu.pc (2 ^ 18)) (Some (instruction_of (get_or t.words t.cpu.pc 0))) None) in
     subst P stopped writes
 
 runs-not : (t : State) → nat_eq t.cpu.stop 0 ≡ false → t.cpu.stop ≡ 0 → ⊥
@@ -128,6 +134,8 @@ stopped-holds (SendsByte byte) es n t stopped holds = none-some byte holds
 stopped-holds (Takes kind) es n t stopped holds = runs-not t stopped holds.0
 stopped-holds Stops es n t stopped holds = runs-not t stopped holds.0
 stopped-holds (Writes register) es n t stopped holds = stopped-writes register t stopped holds.writes
+stopped-holds (WritesFlags mask) es n t stopped holds = stopped-writes-flags mask t stopped holds.writes
+stopped-holds (Alters register mask) es n t stopped holds = holds refl
 stopped-holds (Is register values) es n t stopped holds = runs-not t stopped holds.0
 stopped-holds (IsWord number mask values) es n t stopped holds = runs-not t stopped holds.0
 

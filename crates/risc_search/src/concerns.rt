@@ -61,6 +61,8 @@ fn cost(condition: Condition) -> u32 {
         Condition::Takes(_) => 0,
         Condition::Stops => 0,
         Condition::Writes(register) => cost_of_writes(register),
+        Condition::WritesFlags(_) => cost_of_writes(Register::Flags),
+        Condition::Alters(register, _) => cost_of_writes(register),
         Condition::Is(_, _) => 1 << 18,
         Condition::IsWord(_, _, _) => 1 << 18,
     }
@@ -146,6 +148,8 @@ impl Concerns {
             Condition::Takes(_) => {}
             Condition::Stops => {}
             Condition::Writes(register) => return self.with_register(register),
+            Condition::WritesFlags(_) => return self.with_register(Register::Flags),
+            Condition::Alters(register, _) => return self.with_register(register),
             Condition::Is(_, _) => return self.with_all(),
             Condition::IsWord(_, _, _) => return self.with_all(),
         }

@@ -29,6 +29,11 @@ pub enum Condition {
     Stops,
     /// The instruction writes the register, whatever the value, and does not stop the machine.
     Writes(Register),
+    /// The instruction writes one of the flags that the mask names, whatever the value, and does not stop the machine. N is 8 in the
+    /// mask, Z 4, C 2 and V 1. N and Z are written with each of R0 to R15, C and V by sums and differences alone.
+    WritesFlags(u32),
+    /// A bit of the register differs after the instruction, and the mask names it.
+    Alters(Register, u32),
     /// The machine runs at count n, and the register has one of these values before the instruction.
     Is(Register, Values),
     /// The machine runs at count n, and the bits that the mask, the second number, names of the word of RAM with the first number have

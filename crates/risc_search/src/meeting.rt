@@ -1,21 +1,39 @@
 //! Tests of conditions on a step: whether they may hold, by what is known before its instruction, and whether they do, by what is
 //! known after it. Nothing of the processor has to be copied for it.
-ghost use Rattle.std.specs.Prelude.{◌≡◌, ◌<◌, ◌≤◌, ◌↔◌, false, IfNone, IfSome, IsTrue, length, slice_index_or, ℕ};
+ghost use Rattle.std.specs.Prelude.{◌≡◌, ◌<◌, ◌≤◌, ◌↔◌, false, IfNone, IfSome, IsTrue, length, ℕ};
 ghost use Rattle.risc_model.specs.MachineState.{cpu_state};
 ghost use Rattle.risc_search.specs.Condition.{Accesses, IsWordOf};
 ghost use Rattle.risc_search.specs.inner.Due.{HasKind};
-ghost use Rattle.risc_search.specs.inner.Observed.{AreArmed, AreMetFrom, IsArmed, IsBefore, IsMetAfter, IsMetAt, NoneIsMet};
+ghost use Rattle.risc_search.specs.inner.Observed.{AreArmed, AreMetFrom, IsArmed, IsBefore, IsKnown, IsMetAfter, IsMetAt, NoneIsMet, armed_at, old_value};
 
 use crate::access::{Access, next_instruction};
 use crate::before::{Before, word_stored};
 use crate::clauses::is_joined;
 use crate::condition::{Clause, Condition};
+use crate::register::writes_flag;
 use crate::span::Span;
 use crate::stored_word::StoredWord;
 use crate::values::Values;
 use risc_machine::Machine;
 use risc_model::{Cpu, Event};
 use risc_pages::{MEMORY_WORDS, Memory};
+
+/// What is known of a clause before the instruction of a step.
+#[derive(Clone, Copy)]
+pub(crate) struct Armed {
+    /// Whether its condition may hold.
+    is_armed: bool,
+    /// The bits whose change it looks for; 0 if it looks for none of a register.
+    old: u32,
+}
+
+impl Armed {
+    /// A clause whose condition does not hold.
+    pub(crate) const NOT: Armed = Armed {
+        is_armed: false,
+        old: 0,
+    };
+}
 
 /// Reports whether an instruction stores to a byte in the range, or else whether it loads one.
 #[inline(always)]
@@ -69,16 +87,50 @@ fn is_armed(condition: Condition, before: &Before, machine: &Machine<'_>, taken:
             Some(instruction) => register.is_written_by(instruction, cpu.flags),
             None => false,
         },
+        Condition::WritesFlags(mask) => match next_instruction(cpu, machine.memory()) {
+            Some(instruction) => writes_flag(mask, instruction, cpu.flags),
+            None => false,
+        },
+        Condition::Alters(_, _) => true,
         Condition::Is(register, values) => cpu.stop == 0 && values.contains(register.value(cpu)),
         Condition::IsWord(number, mask, values) => cpu.stop == 0
             && is_word(machine.memory(), number, mask, values),
     }
 }
 
-/// Reports whether a condition that is armed holds, by what is known after the instruction.
+/// Returns the bits of a register whose change a condition looks for, or 0 if it looks for no such change.
 #[inline(always)]
-fn is_met(condition: Condition, cpu: &Cpu, stored: Option<StoredWord>, sent: Option<u8>) -> bool
-    ensures { IsTrue result ↔ IsMetAfter condition (cpu_state cpu.now) stored sent }
+fn old_value(condition: Condition, cpu: &Cpu) -> u32
+    ensures { result ≡ old_value condition (cpu_state cpu.now) }
+{
+    match condition {
+        Condition::Alters(register, mask) => register.masked(cpu, mask),
+        _ => 0,
+    }
+}
+
+/// Returns what is known of a condition before the instruction of a step.
+#[inline(always)]
+fn known(condition: Condition, before: &Before, machine: &Machine<'_>, taken: &[Event]) -> Armed
+    requires { IsBefore before.now machine.now.state }
+    ensures { IsKnown condition machine.now.state taken.now result }
+{
+    Armed {
+        is_armed: is_armed(condition, before, machine, taken),
+        old: old_value(condition, machine.cpu()),
+    }
+}
+
+/// Reports whether a condition that is armed holds, by its bits before the instruction, and by what is known after it.
+#[inline(always)]
+fn is_met(
+    condition: Condition,
+    old: u32,
+    cpu: &Cpu,
+    stored: Option<StoredWord>,
+    sent: Option<u8>,
+) -> bool
+    ensures { IsTrue result ↔ IsMetAfter condition old (cpu_state cpu.now) stored sent }
 {
     match condition {
         Condition::Counter(_) => true,
@@ -94,31 +146,33 @@ fn is_met(condition: Condition, cpu: &Cpu, stored: Option<StoredWord>, sent: Opt
         Condition::Takes(_) => true,
         Condition::Stops => cpu.stop != 0,
         Condition::Writes(_) => cpu.stop == 0,
+        Condition::WritesFlags(_) => cpu.stop == 0,
+        Condition::Alters(register, mask) => register.masked(cpu, mask) != old,
         Condition::Is(_, _) => true,
         Condition::IsWord(_, _, _) => true,
     }
 }
 
-/// Sets which clauses are armed before an instruction. Reports whether any is.
+/// Notes what is known of each clause before an instruction. Reports whether any is armed.
 #[inline(always)]
 pub(crate) fn arm(
     conditions: &[Clause],
     before: &Before,
     machine: &Machine<'_>,
     taken: &[Event],
-    armed: &mut [bool],
+    armed: &mut [Armed],
 ) -> bool
     requires before { IsBefore before.now machine.now.state }
     requires armed { length conditions.now ≤ length armed.old }
     ensures armed { AreArmed conditions.now machine.now.state taken.now armed.new }
     ensures count { length armed.new ≡ length armed.old }
-    ensures none { result ≡ false → (k : ℕ) → k < length conditions.now → ¬ (IsTrue (slice_index_or armed.new k false)) }
+    ensures none { result ≡ false → (k : ℕ) → k < length conditions.now → ¬ (IsTrue (armed_at armed.new k).is_armed) }
 {
     let mut any = false;
     for index in 0..conditions.len() {
-        let is_armed = is_armed(conditions[index].condition, before, machine, taken);
-        armed[index] = is_armed;
-        any |= is_armed;
+        let known = known(conditions[index].condition, before, machine, taken);
+        armed[index] = known;
+        any |= known.is_armed;
     }
     any
 }
@@ -127,7 +181,7 @@ pub(crate) fn arm(
 #[inline(always)]
 fn is_met_at(
     conditions: &[Clause],
-    armed: &[bool],
+    armed: &[Armed],
     index: usize,
     cpu: &Cpu,
     stored: Option<StoredWord>,
@@ -137,14 +191,15 @@ fn is_met_at(
     requires armed { length conditions.now ≤ length armed.now }
     ensures { IsTrue result ↔ IsMetAt conditions.now armed.now (cpu_state cpu.now) stored sent index }
 {
-    armed[index] && is_met(conditions[index].condition, cpu, stored, sent)
+    let Armed { is_armed, old } = armed[index];
+    is_armed && is_met(conditions[index].condition, old, cpu, stored, sent)
 }
 
 /// Reports whether a clause is armed and met: if none is, no condition is, whichever are joined.
 #[inline(always)]
 fn any_met(
     conditions: &[Clause],
-    armed: &[bool],
+    armed: &[Armed],
     cpu: &Cpu,
     stored: Option<StoredWord>,
     sent: Option<u8>,
@@ -165,7 +220,7 @@ fn any_met(
 #[inline(always)]
 pub(crate) fn first_met(
     conditions: &[Clause],
-    armed: &[bool],
+    armed: &[Armed],
     cpu: &Cpu,
     stored: Option<StoredWord>,
     sent: Option<u8>,
@@ -185,7 +240,7 @@ pub(crate) fn first_met(
 #[inline(never)]
 fn first_joined(
     conditions: &[Clause],
-    armed: &[bool],
+    armed: &[Armed],
     cpu: &Cpu,
     stored: Option<StoredWord>,
     sent: Option<u8>,

@@ -1,12 +1,13 @@
 //! The registers that a search can watch.
 ghost use Rattle.std.specs.Prelude.{◌≡◌, ◌↔◌, IsTrue, None, Some, if◌then◌else◌};
+ghost use Rattle.risc_core.specs.Arithmetic.{and_word};
 ghost use Rattle.risc_core.specs.Instruction.{HasFields};
 ghost use Rattle.risc_model.specs.MachineState.{cpu_state};
-ghost use Rattle.risc_search.specs.Condition.{IsWrittenBy, register_value};
+ghost use Rattle.risc_search.specs.Condition.{IsWrittenBy, register_value, writes_carry, writes_flag};
 ghost use Rattle.risc_core.specs.Written.{written_register, writes_auxiliary};
 
-use risc_core::operations::{DIV, MUL};
-use risc_core::{Flags, Instr, LINK_REGISTER, taken};
+use risc_core::operations::{ADD, DIV, MUL, SUB};
+use risc_core::{Flags, Instr, LINK_REGISTER, is_set, taken};
 use risc_model::Cpu;
 
 /// A register of the processor ("The RISC Architecture", N. Wirth).
@@ -35,6 +36,15 @@ impl Register {
             Register::Flags => cpu.flags.number(),
         }
     }
+
+    /// Returns the bits of the register that a mask names.
+    #[inline]
+    pub(crate) fn masked(self, cpu: &Cpu, mask: u32) -> u32
+        ensures { result ≡ and_word (register_value self (cpu_state cpu.now)) mask }
+    {
+        self.value(cpu) & mask
+    }
+
     /// Reports whether an instruction that does not stop the machine writes the register.
     #[inline]
     pub(crate) fn is_written_by(self, instruction: Instr, flags: Flags) -> bool
@@ -72,6 +82,34 @@ fn linked(links: bool) -> Option<u8>
     ensures { result ≡ if links then Some LINK_REGISTER else None }
 {
     if links { Some(LINK_REGISTER) } else { None }
+}
+
+/// Reports whether an instruction that does not stop the machine writes one of the flags that a mask names.
+#[inline]
+#[tactic(auto, unfolding(crate::specs::Condition::writes_flag))]
+pub(crate) fn writes_flag(mask: u32, instruction: Instr, flags: Flags) -> bool
+    requires { HasFields instruction }
+    ensures { result ≡ writes_flag mask instruction flags }
+{
+    let sign = is_set(mask, 3) || is_set(mask, 2);
+    let carry = is_set(mask, 1) || is_set(mask, 0);
+    sign && written_register(instruction, flags).is_some() || carry && writes_carry(instruction)
+}
+
+/// Reports whether an instruction that does not stop the machine writes C and V: a sum or a difference.
+#[inline]
+#[tactic(auto, unfolding(crate::specs::Condition::writes_carry))]
+fn writes_carry(instruction: Instr) -> bool
+    ensures { result ≡ writes_carry instruction }
+{
+    match instruction {
+        Instr::Reg { op, .. } => op == ADD || op == SUB,
+        Instr::Imm { op, .. } => op == ADD || op == SUB,
+        Instr::Load { .. } => false,
+        Instr::Store { .. } => false,
+        Instr::BranchReg { .. } => false,
+        Instr::BranchOff { .. } => false,
+    }
 }
 
 /// Reports whether an instruction that does not stop the machine writes H: the high half of a product, or a remainder.

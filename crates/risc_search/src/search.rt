@@ -17,7 +17,7 @@ use crate::condition::Clause;
 use crate::due::{due_after, inputs_at, next_due};
 use crate::hit::{Hit, Hits};
 use crate::idle::Passed;
-use crate::meeting::{arm, first_met};
+use crate::meeting::{Armed, arm, first_met};
 use crate::pace::Pace;
 use risc_machine::Machine;
 use risc_model::Inputs;
@@ -88,7 +88,7 @@ impl<'s> Search<'s> {
         before: &Before,
         machine: &mut Machine<'_>,
         at: u64,
-        armed: &mut [bool],
+        armed: &mut [Armed],
     ) -> Result<Stepped, AllocError>
         requires before { IsBefore before.now machine.old.state }
         requires quiet { IsQuiet self.now.inputs.now at (at + 1) }
@@ -120,7 +120,7 @@ impl<'s> Search<'s> {
         &self,
         machine: &mut Machine<'_>,
         at: u64,
-        armed: &mut [bool],
+        armed: &mut [Armed],
     ) -> Result<Option<usize>, AllocError>
         requires quiet { IsQuiet self.now.inputs.now at (at + 1) }
         requires armed { length self.now.conditions.now ≤ length armed.old }
@@ -142,7 +142,7 @@ impl<'s> Search<'s> {
         &self,
         machine: &mut Machine<'_>,
         at: u64,
-        armed: &mut [bool],
+        armed: &mut [Armed],
     ) -> Result<Option<usize>, AllocError>
         requires below { at < 2 ^ 64 - 1 }
         requires armed { length self.now.conditions.now ≤ length armed.old }
@@ -173,7 +173,7 @@ impl<'s> Search<'s> {
         at: u64,
         due: u64,
         pace: &mut Pace,
-        armed: &mut [bool],
+        armed: &mut [Armed],
     ) -> Result<Passed, AllocError>
         requires quiet { IsQuiet self.now.inputs.now at due }
         requires due { at ≤ due }
@@ -225,7 +225,7 @@ impl<'s> Search<'s> {
         machine: &mut Machine<'_>,
         progress: &mut Progress,
         to: u64,
-        armed: &mut [bool],
+        armed: &mut [Armed],
     ) -> Result<Option<Hit>, AllocError>
         requires progress { IsInRange self.now.inputs.now to progress.old }
         requires concerns { CoverAll self.now.concerns self.now.conditions.now }
@@ -289,7 +289,7 @@ pub fn find_first(
 {
     let search = Search::new(alloc, inputs, conditions);
     let mut progress = search.begin(from, to);
-    let mut armed = [false; MAX_CONDITIONS];
+    let mut armed = [Armed::NOT; MAX_CONDITIONS];
     search.next(machine, &mut progress, to, &mut armed)
 }
 
@@ -314,7 +314,7 @@ pub fn find_last(
 {
     let search = Search::new(alloc, inputs, conditions);
     let mut progress = search.begin(from, to);
-    let mut armed = [false; MAX_CONDITIONS];
+    let mut armed = [Armed::NOT; MAX_CONDITIONS];
     let mut found = None;
     while progress.at < to {
         let Some(hit) = search.next(machine, &mut progress, to, &mut armed)? else {
@@ -351,7 +351,7 @@ pub fn find_all(
 {
     let search = Search::new(alloc, inputs, conditions);
     let mut progress = search.begin(from, to);
-    let mut armed = [false; MAX_CONDITIONS];
+    let mut armed = [Armed::NOT; MAX_CONDITIONS];
     let mut list = Vec::new(alloc);
     while progress.at < to && list.len() < room {
         if let Some(hit) = search.next(machine, &mut progress, to, &mut armed)? {

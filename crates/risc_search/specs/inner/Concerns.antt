@@ -8,7 +8,7 @@ use Rattle.risc_search.specs.declared.concerns.Concerns.{Concerns}
 use Rattle.risc_search.specs.declared.condition.Clause.{Clause}
 use Rattle.risc_search.specs.declared.condition.Condition.{Condition}
 use Rattle.risc_search.specs.declared.condition.Condition.TheVariants.{Counter, Store as Stored, Change, Load as Loaded}
-use Rattle.risc_search.specs.declared.condition.Condition.TheVariants.{Becomes, Sends, SendsByte, Takes, Stops, Writes, Is, IsWord}
+use Rattle.risc_search.specs.declared.condition.Condition.TheVariants.{Becomes, Sends, SendsByte, Takes, Stops, Writes, WritesFlags, Alters, Is, IsWord}
 use Rattle.risc_search.specs.declared.register.Register.{Register}
 use Rattle.risc_search.specs.declared.register.Register.TheVariants.{Numbered, Auxiliary, Flags}
 use Rattle.risc_search.specs.Access.{accessed}
@@ -59,6 +59,8 @@ Covers concerns (SendsByte byte) = ⊤
 Covers concerns (Takes kind) = ⊤
 Covers concerns Stops = ⊤
 Covers concerns (Writes register) = CoversRegister concerns register
+Covers concerns (WritesFlags mask) = CoversRegister concerns Flags
+Covers concerns (Alters register mask) = CoversRegister concerns register
 Covers concerns (Is register values) = IsAll concerns
 Covers concerns (IsWord number mask values) = IsAll concerns
 

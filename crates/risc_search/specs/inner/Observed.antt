@@ -1,5 +1,5 @@
 -- What a search knows of a step, before its instruction and after it.
-use Rattle.std.specs.Prelude.{ℕ, ◌≡◌, ◌≢◌, ◌<◌, ◌+◌, ◌*◌, ◌/◌, ◌^◌, ◌↔◌, ◌&&◌, nat_lt, Bool, true, false, List, length, slice_index}
+use Rattle.std.specs.Prelude.{ℕ, ◌≡◌, ◌≢◌, ◌<◌, ◌+◌, ◌*◌, ◌/◌, ◌^◌, ◌↔◌, ◌&&◌, nat_lt, true, false, List, length, slice_index}
 use Rattle.std.specs.Prelude.{slice_index_or, slice_set, Option, None, Some, IfSome, IsSome, IsTrue, MatchOption, ⊤, if◌then◌else◌}
 use Rattle.risc_core.specs.Word.{bit}
 use Rattle.risc_model.specs.declared.event.Event.{Event}
@@ -11,11 +11,12 @@ use Rattle.risc_search.specs.declared.before.Before.{Before}
 use Rattle.risc_search.specs.declared.condition.Clause.{Clause}
 use Rattle.risc_search.specs.declared.condition.Condition.{Condition}
 use Rattle.risc_search.specs.declared.condition.Condition.TheVariants.{Counter, Store, Change, Load, Becomes}
-use Rattle.risc_search.specs.declared.condition.Condition.TheVariants.{Sends, SendsByte, Takes, Stops, Writes, Is, IsWord}
+use Rattle.risc_search.specs.declared.condition.Condition.TheVariants.{Sends, SendsByte, Takes, Stops, Writes, WritesFlags, Alters, Is, IsWord}
+use Rattle.risc_search.specs.declared.meeting.Armed.{Armed}
 use Rattle.risc_search.specs.declared.stored_word.StoredWord.{StoredWord}
 use Rattle.risc_search.specs.declared.span.Span.{Span}
 use Rattle.risc_search.specs.Access.{next_access, next_instruction}
-use Rattle.risc_search.specs.Condition.{Accesses, IsNextWriting, IsWordOf, register_value}
+use Rattle.risc_search.specs.Condition.{Accesses, IsNextWriting, IsNextWritingFlags, IsWordOf, masked, register_value}
 use Rattle.risc_search.specs.Search.{IsMet, NoneHolds}
 use Rattle.risc_search.specs.Span.{IsIn}
 use Rattle.risc_search.specs.Step.{Step, step_from}
@@ -85,41 +86,60 @@ IsArmed (SendsByte byte) s taken = ⊤
 IsArmed (Takes kind) s taken = (s.cpu.stop ≡ 0) × HasKind kind taken
 IsArmed Stops s taken = s.cpu.stop ≡ 0
 IsArmed (Writes register) s taken = IsNextWriting register s.cpu (next_instruction s.cpu s.words)
+IsArmed (WritesFlags mask) s taken = IsNextWritingFlags mask s.cpu (next_instruction s.cpu s.words)
+IsArmed (Alters register mask) s taken = ⊤
 IsArmed (Is register values) s taken = (s.cpu.stop ≡ 0) × IsOneOf values (register_value register s.cpu)
 IsArmed (IsWord number mask values) s taken =
     (s.cpu.stop ≡ 0) × IsWordOf s.words number mask values
 
--- an armed condition is met: by what is known after the instruction, it holds
-abbrev pub IsMetAfter : Condition → CpuState → Option StoredWord → Option ℕ → Type 0
-IsMetAfter (Counter words) cpu stored sent = ⊤
-IsMetAfter (Store bytes) cpu stored sent = ⊤
-IsMetAfter (Change bytes mask) cpu stored sent = MatchOption stored ⊥ (Differs bytes mask)
-IsMetAfter (Load bytes) cpu stored sent = ⊤
-IsMetAfter (Becomes register value) cpu stored sent = register_value register cpu ≡ value
-IsMetAfter Sends cpu stored sent = IsSome sent
-IsMetAfter (SendsByte byte) cpu stored sent = sent ≡ Some byte
-IsMetAfter (Takes kind) cpu stored sent = ⊤
-IsMetAfter Stops cpu stored sent = cpu.stop ≢ 0
-IsMetAfter (Writes register) cpu stored sent = cpu.stop ≡ 0
-IsMetAfter (Is register values) cpu stored sent = ⊤
-IsMetAfter (IsWord number mask values) cpu stored sent = ⊤
+-- the bits of a register whose change a condition looks for, or 0
+abbrev pub old_value : Condition → CpuState → ℕ
+old_value (Alters register mask) cpu = masked register mask cpu
+old_value _ cpu = 0
 
--- which clauses of a list are armed
-abbrev pub AreArmed : List Clause → State → List Event → List Bool → Type 0
+-- an armed condition is met: by its bits before the instruction, and by what is known after it, it holds
+abbrev pub IsMetAfter : Condition → ℕ → CpuState → Option StoredWord → Option ℕ → Type 0
+IsMetAfter (Counter words) old cpu stored sent = ⊤
+IsMetAfter (Store bytes) old cpu stored sent = ⊤
+IsMetAfter (Change bytes mask) old cpu stored sent = MatchOption stored ⊥ (Differs bytes mask)
+IsMetAfter (Load bytes) old cpu stored sent = ⊤
+IsMetAfter (Becomes register value) old cpu stored sent = register_value register cpu ≡ value
+IsMetAfter Sends old cpu stored sent = IsSome sent
+IsMetAfter (SendsByte byte) old cpu stored sent = sent ≡ Some byte
+IsMetAfter (Takes kind) old cpu stored sent = ⊤
+IsMetAfter Stops old cpu stored sent = cpu.stop ≢ 0
+IsMetAfter (Writes register) old cpu stored sent = cpu.stop ≡ 0
+IsMetAfter (WritesFlags mask) old cpu stored sent = cpu.stop ≡ 0
+IsMetAfter (Alters register mask) old cpu stored sent = masked register mask cpu ≢ old
+IsMetAfter (Is register values) old cpu stored sent = ⊤
+IsMetAfter (IsWord number mask values) old cpu stored sent = ⊤
+
+-- what is known of the clause at an index before the instruction
+abbrev pub armed_at : List Armed → ℕ → Armed
+armed_at armed k = slice_index_or armed k (record { is_armed = false; old = 0 })
+
+-- it is whether its condition is armed, with the bits whose change that looks for
+pub record IsKnown (condition : Condition) (s : State) (taken : List Event) (known : Armed) : Type 0 where
+  pub armed : IsTrue known.is_armed ↔ IsArmed condition s taken
+  pub old : known.old ≡ old_value condition s.cpu
+
+-- what is known of each clause of a list
+abbrev pub AreArmed : List Clause → State → List Event → List Armed → Type 0
 AreArmed conditions s taken armed =
-    (k : ℕ) (d : Clause) → k < length conditions → IsTrue (slice_index_or armed k false) ↔ IsArmed (slice_index_or conditions k d).condition s taken
+    (k : ℕ) (d : Clause) → k < length conditions → IsKnown (slice_index_or conditions k d).condition s taken (armed_at armed k)
 
 -- a clause of the list is armed and met
-abbrev pub IsMetAt : List Clause → List Bool → CpuState → Option StoredWord → Option ℕ → ℕ → Type 0
+abbrev pub IsMetAt : List Clause → List Armed → CpuState → Option StoredWord → Option ℕ → ℕ → Type 0
 IsMetAt conditions armed cpu stored sent k =
-    (d : Clause) → IsTrue (slice_index_or armed k false) × IsMetAfter (slice_index_or conditions k d).condition cpu stored sent
+    (d : Clause) → IsTrue (armed_at armed k).is_armed
+    × IsMetAfter (slice_index_or conditions k d).condition (armed_at armed k).old cpu stored sent
 
 -- so is each clause of the condition that begins at an index
-abbrev pub AreMetFrom : List Clause → List Bool → CpuState → Option StoredWord → Option ℕ → ℕ → Type 0
+abbrev pub AreMetFrom : List Clause → List Armed → CpuState → Option StoredWord → Option ℕ → ℕ → Type 0
 AreMetFrom conditions armed cpu stored sent first = AreAll conditions (IsMetAt conditions armed cpu stored sent) first
 
 -- there is no such condition before the index
-abbrev pub NoneIsMet : List Clause → List Bool → CpuState → Option StoredWord → Option ℕ → ℕ → Type 0
+abbrev pub NoneIsMet : List Clause → List Armed → CpuState → Option StoredWord → Option ℕ → ℕ → Type 0
 NoneIsMet conditions armed cpu stored sent index = (k : ℕ) → k < index → ¬ (AreMetFrom conditions armed cpu stored sent k)
 
 -- the first condition of a list that holds at a step, or that none does

@@ -46,6 +46,15 @@ const RANGES: [(u64, u64, Option<u64>, Option<u64>); 6] = [
     (7, 8, Some(7), Some(7)),
 ];
 
+/// Conditions on registers, and the counts of the first and the last hit. R0 becomes n by the ADD of count 3 (n - 1): its bit 2 changes
+/// where it becomes a multiple of 4, and no flag ever does.
+const REGISTERS: [(Condition, Option<u64>, Option<u64>); 4] = [
+    (Condition::Alters(Register::Numbered(0), 4), Some(9), Some(93)),
+    (Condition::Alters(Register::Flags, 15), None, None),
+    (Condition::WritesFlags(1), Some(0), Some(99)),
+    (Condition::WritesFlags(16), None, None),
+];
+
 /// Returns the past of the session.
 pub(super) fn past(alloc: Global) -> Option<Past> {
     let session = read_session(alloc, SESSION.as_bytes()).ok()?;
@@ -88,6 +97,22 @@ fn range_of_another_hit(alloc: Global, past: &mut Past) -> Option<(u64, u64)> {
             || found(alloc, past, range, &STORES, Which::Last) != Some(*last)
         {
             return Some(range);
+        }
+    }
+    None
+}
+
+/// Returns the first condition of the table that holds first or last at other counts, if there is one.
+fn condition_of_other_hits(alloc: Global, past: &mut Past) -> Option<Condition> {
+    for (condition, first, last) in &REGISTERS {
+        let clauses = [Clause {
+            condition: *condition,
+            joined: false,
+        }];
+        if found(alloc, past, (0, 100), &clauses, Which::First) != Some(*first)
+            || found(alloc, past, (0, 100), &clauses, Which::Last) != Some(*last)
+        {
+            return Some(*condition);
         }
     }
     None
@@ -146,6 +171,17 @@ fn finds_the_first_and_the_last_hit(rt: HostRuntime) {
                 "last"
             );
         }
+        None => panic!(rt; "no past"),
+    }
+}
+
+#[test]
+fn finds_writes_of_registers(rt: HostRuntime) {
+    let alloc = rt.alloc();
+    match past(alloc) {
+        Some(mut past) => if let Some(condition) = condition_of_other_hits(alloc, &mut past) {
+            panic!(rt; "{condition:?}");
+        },
         None => panic!(rt; "no past"),
     }
 }
