@@ -1,5 +1,5 @@
 -- What writes a part where a search for its writes finds a hit.
-use Rattle.std.proofs.Common.{◌<◌, ℕ, zero, suc, List, arith}
+use Rattle.std.proofs.Common.{ℕ, zero, suc, List, arith}
 use Rattle.risc_model.specs.declared.event.Event.{Event}
 use Rattle.risc_search.proofs.ClauseLemmas.{first-holds}
 use Rattle.risc_search.specs.declared.condition.Condition.TheVariants.{Takes}
