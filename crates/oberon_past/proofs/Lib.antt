@@ -8,6 +8,7 @@ mod Following
 mod Staying
 mod Adding
 mod Searches
+mod Written
 mod Traces
 mod Counting
 mod CallsFollowed

@@ -1,9 +1,10 @@
--- The past of a run. Read it in this order: a run, a past, what it answers, how it changes, what searches find in it, what its
--- instructions do, how often each word is executed, its calls.
+-- The past of a run. Read it in this order: a run, a past, what it answers, how it changes, what searches find in it, who wrote a
+-- part last, what its instructions do, how often each word is executed, its calls.
 pub mod Run
 pub mod Past
 pub mod Live
 pub mod Search
+pub mod Writes
 pub mod Trace
 pub mod Profile
 pub mod Calls

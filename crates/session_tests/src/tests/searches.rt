@@ -1,6 +1,8 @@
 //! Searches through the past of a session, with keyframes and budgets so near that each search has to be asked again.
 
-use oberon_past::{AllFound, Found, OutOfRange, Past, Steps, Which};
+use oberon_past::{
+    AllFound, Found, LastWrite, OutOfRange, Part, Past, Steps, Which, WriteKind, Writer,
+};
 use oberon_session::{make_recording, read_session};
 use risc_search::{Clause, Condition, MAX_CONDITIONS, Register, Span, Values};
 use std::alloc::Global;
@@ -49,10 +51,35 @@ const RANGES: [(u64, u64, Option<u64>, Option<u64>); 6] = [
 /// Conditions on registers, and the counts of the first and the last hit. R0 becomes n by the ADD of count 3 (n - 1): its bit 2 changes
 /// where it becomes a multiple of 4, and no flag ever does.
 const REGISTERS: [(Condition, Option<u64>, Option<u64>); 4] = [
-    (Condition::Alters(Register::Numbered(0), 4), Some(9), Some(93)),
+    (
+        Condition::Alters(Register::Numbered(0), 4),
+        Some(9),
+        Some(93),
+    ),
     (Condition::Alters(Register::Flags, 15), None, None),
     (Condition::WritesFlags(1), Some(0), Some(99)),
     (Condition::WritesFlags(16), None, None),
+];
+
+/// Parts, a count, and that of the last write before it. R0 becomes 32 at count 93, which the store of count 94 writes.
+const PARTS: [(Part, WriteKind, u64, Option<u64>); 7] = [
+    (
+        Part::Register(Register::Numbered(0), 1),
+        WriteKind::Any,
+        99,
+        Some(96),
+    ),
+    (
+        Part::Register(Register::Numbered(0), 32),
+        WriteKind::Changing,
+        100,
+        Some(93),
+    ),
+    (Part::Word(0x400, 0xFF00), WriteKind::Any, 100, Some(97)),
+    (Part::Word(0x400, 32), WriteKind::Changing, 100, Some(94)),
+    (Part::Word(0x401, 32), WriteKind::Any, 100, None),
+    (Part::Leds, WriteKind::Any, 100, None),
+    (Part::Stop, WriteKind::Any, 100, None),
 ];
 
 /// Returns the past of the session.
@@ -113,6 +140,39 @@ fn condition_of_other_hits(alloc: Global, past: &mut Past) -> Option<Condition> 
             || found(alloc, past, (0, 100), &clauses, Which::Last) != Some(*last)
         {
             return Some(*condition);
+        }
+    }
+    None
+}
+
+/// Returns the count of the last write of a part before a count; or none, if there is none. Asks as often as that takes.
+fn written(
+    alloc: Global,
+    past: &mut Past,
+    part: Part,
+    kind: WriteKind,
+    before: u64,
+) -> Option<Option<u64>> {
+    let budget = Steps::new(5)?;
+    let mut before = before;
+    for _turn in 0..1_000u32 {
+        match past.write(alloc, part, kind, before, budget) {
+            Ok(LastWrite::Done(Some(write))) if write.by == Writer::Instruction => return Some(Some(
+                write.count,
+            )),
+            Ok(LastWrite::Done(None)) => return Some(None),
+            Ok(LastWrite::More(at)) => before = at,
+            _ => return None,
+        }
+    }
+    None
+}
+
+/// Returns the first part of the table that is written last at another count, if there is one.
+fn part_of_another_write(alloc: Global, past: &mut Past) -> Option<Part> {
+    for (part, kind, before, count) in &PARTS {
+        if written(alloc, past, *part, *kind, *before) != Some(*count) {
+            return Some(*part);
         }
     }
     None
@@ -181,6 +241,17 @@ fn finds_writes_of_registers(rt: HostRuntime) {
     match past(alloc) {
         Some(mut past) => if let Some(condition) = condition_of_other_hits(alloc, &mut past) {
             panic!(rt; "{condition:?}");
+        },
+        None => panic!(rt; "no past"),
+    }
+}
+
+#[test]
+fn finds_the_last_write(rt: HostRuntime) {
+    let alloc = rt.alloc();
+    match past(alloc) {
+        Some(mut past) => if let Some(part) = part_of_another_write(alloc, &mut past) {
+            panic!(rt; "{part:?}");
         },
         None => panic!(rt; "no past"),
     }
