@@ -2,21 +2,21 @@
 use Rattle.std.proofs.Common.{◌≡◌, ◌≢◌, ◌∙◌, ◌+◌, ◌-◌, ◌<◌, ◌≤◌, ℕ, suc, Bool, true, false, List, [], ◌∷◌, ◌++◌, ap, arith, drop, get_or, length, length-drop, length-take, map, nat_lt, refl, sym, take}
 use Rattle.std.specs.Prelude.{◌==◌, if◌then◌else◌}
 use Rattle.std.specs.List.{All, filter}
-use Rattle.std.proofs.lemmas.Bool.{ltb-false, lt-ltb, le-ltb, ne_eqb}
+use Rattle.std.proofs.lemmas.Bool.{ltb-false, ltb-true, lt-ltb, le-ltb, ne_eqb}
 use Rattle.std.proofs.lemmas.List.{append-nil, drop-map, get_or-drop, take-append-drop}
 use Rattle.std.proofs.lemmas.List.Elements.{filter-append}
 use Rattle.risc_devices.specs.DeviceState.{DeviceState}
 use Rattle.risc_devices.specs.Input.{taken_input}
 use Rattle.risc_model.specs.declared.event.Event.{Event}
-use Rattle.risc_model.specs.InputOrder.{IsNextAt, count_at}
+use Rattle.risc_model.specs.InputOrder.{AreOrdered, IsNextAt, count_at}
 use Rattle.risc_model.specs.MachineState.{State}
-use Rattle.risc_model.specs.Replay.{fed, run_of}
-use Rattle.risc_model.proofs.FrameLemmas.{agree-run, fed-append}
-use Rattle.risc_model.proofs.OrderLemmas.{count_at-take}
+use Rattle.risc_model.specs.Replay.{fed, run_of, sent_of}
+use Rattle.risc_model.proofs.FrameLemmas.{agree-run, agree-sent, fed-append}
+use Rattle.risc_model.proofs.OrderLemmas.{count_at-take, counts-order}
 use Rattle.risc_model.proofs.RunLemmas.{fed-others}
 use Rattle.oberon_session.proofs.JoinedOrder.{each-count}
 use Rattle.oberon_past.specs.Live.{AreSameUpTo, inputs_before}
-use Rattle.oberon_past.specs.Run.{Run, state_at}
+use Rattle.oberon_past.specs.Run.{Run}
 
 -- ---- the inputs before a count
 
@@ -38,12 +38,16 @@ before-run es n from k s low = agree-run (inputs_before n es) es from k s (λ j 
 pub before-states : (run : Run) (n : ℕ) → run.start ≤ n → AreSameUpTo n run (record run { inputs = inputs_before n run.inputs })
 before-states run n begun = λ m low. before-run run.inputs n run.start (m - run.start) run.first (omega arith)
 
+-- nor the bytes that it sends
+pub before-sent : (es : List Event) (n from k : ℕ) (s : State) → from + k ≤ n → sent_of (inputs_before n es) from k s ≡ sent_of es from k s
+before-sent es n from k s low = agree-sent (inputs_before n es) es from k s (λ j d h. before-fed es n (from + j) d (omega arith))
+
 all-before : (es : List Event) (n : ℕ) → ((k : ℕ) → k < length es → count_at es k < n) → inputs_before n es ≡ es
 all-before [] n early = refl
 all-before (e ∷ es) n early =
     rw (lt-ltb e.count n (early 0 (omega arith))) (ap (λ (l : List Event). e ∷ l) (all-before es n (λ k h. early (suc k) (omega arith))))
 
-none-before : (es : List Event) (n : ℕ) → ((k : ℕ) → k < length es → n ≤ count_at es k) → inputs_before n es ≡ []
+pub none-before : (es : List Event) (n : ℕ) → ((k : ℕ) → k < length es → n ≤ count_at es k) → inputs_before n es ≡ []
 none-before [] n late = refl
 none-before (e ∷ es) n late = rw (le-ltb e.count n (late 0 (omega arith))) (none-before es n (λ k h. late (suc k) (omega arith)))
 
@@ -71,6 +75,30 @@ take-before es next n is =
     ∙ ap (λ (l : List Event). inputs_before n (take next es) ++ l) rest
     ∙ append-nil (inputs_before n (take next es))
     ∙ first)
+
+-- those before an earlier count are the first of them
+first-before : (e : Event) (es : List Event) (a n : ℕ) → a ≤ n
+    → inputs_before a es ++ drop (length (inputs_before a es)) (inputs_before n es) ≡ inputs_before n es
+    → ((k : ℕ) → k < length (e ∷ es) → e.count ≤ count_at (e ∷ es) k) → (early : Bool) → nat_lt e.count a ≡ early
+    → inputs_before a (e ∷ es) ++ drop (length (inputs_before a (e ∷ es))) (inputs_before n (e ∷ es)) ≡ inputs_before n (e ∷ es)
+first-before e es a n low others up true is =
+    let below = ltb-true e.count a is in
+    rw (is, lt-ltb e.count n (omega arith)) (ap (λ (l : List Event). e ∷ l) others)
+first-before e es a n low others up false is =
+    let late = ltb-false e.count a is in
+    let none = none-before (e ∷ es) a (λ k h. let least = up k h in omega arith) in
+    ap (λ (l : List Event). l ++ drop (length l) (inputs_before n (e ∷ es))) none
+
+joined-rising : (es : List Event) (a n : ℕ) → a ≤ n → ((j k : ℕ) → j ≤ k → k < length es → count_at es j ≤ count_at es k)
+    → inputs_before a es ++ drop (length (inputs_before a es)) (inputs_before n es) ≡ inputs_before n es
+joined-rising [] a n low up = refl
+joined-rising (e ∷ es) a n low up =
+    first-before e es a n low (joined-rising es a n low (λ j k h inside. up (suc j) (suc k) (omega arith) (omega arith)))
+    (λ k inside. up 0 k (omega arith) inside) (nat_lt e.count a) refl
+
+pub joined-before : (es : List Event) (a n : ℕ) → a ≤ n → AreOrdered es
+    → inputs_before a es ++ drop (length (inputs_before a es)) (inputs_before n es) ≡ inputs_before n es
+joined-before es a n low ordered = joined-rising es a n low (counts-order es ordered)
 
 -- ---- more inputs
 

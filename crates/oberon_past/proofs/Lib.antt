@@ -12,3 +12,4 @@ mod Written
 mod Traces
 mod Counting
 mod CallsFollowed
+mod Drafts

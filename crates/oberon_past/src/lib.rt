@@ -8,6 +8,9 @@ mod answer;
 mod called;
 mod calling;
 mod copying;
+mod draft;
+mod draft_fault;
+mod drafting;
 mod extent;
 mod fault;
 mod found;
@@ -29,6 +32,8 @@ mod writes;
 
 pub use answer::Answer;
 pub use called::{Called, Calls};
+pub use draft::{Draft, Drafted};
+pub use draft_fault::DraftFault;
 pub use extent::Extent;
 pub use fault::PastFault;
 pub use found::{AllFound, Found, OutOfRange, Which};

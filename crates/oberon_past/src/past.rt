@@ -382,7 +382,7 @@ fn past_from(
 }
 
 /// Returns the words of the memory of a table.
-fn words_of(alloc: Global, pool: &Pool, table: &Table) -> Result<Vec<u32>, AllocError>
+pub(crate) fn words_of(alloc: Global, pool: &Pool, table: &Table) -> Result<Vec<u32>, AllocError>
     requires { IsNamed pool.now table.now.numbers }
     ensures words { IfOk result (λ words. words.items ≡ table_words pool.now table.now.numbers) }
     ensures whole { IfOk result (λ words. length words.items ≡ MEMORY_WORDS) }

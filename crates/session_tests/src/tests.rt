@@ -6,5 +6,6 @@ mod disk;
 mod faults;
 mod parts;
 mod past;
+mod recordings;
 mod searches;
 mod traces;
