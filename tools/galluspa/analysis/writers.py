@@ -31,8 +31,7 @@ from galluspa.formats.recording import DISPLAY_START, MEMORY_BYTES, Event
 from galluspa.formats.symbols import Symbols, shown
 from galluspa.process.cli import Refused
 
-# The numbers of last instructions that are searched in turn before all: who wrote something last is mostly near.
-NEAR = (1 << 10, 1 << 16, 1 << 22)
+# The numbers of last instructions among which a sum is sought in turn.
 SUMS_NEAR = (1 << 8, 1 << 12, 1 << 17)
 # The kinds of inputs that set the devices from which one loads.
 KINDS_OF = {"switches": "switches", "mouse": "mouse", "serial": "serial", "timer": "timer", "keys": "key", "disk": "disk"}
@@ -56,14 +55,9 @@ class Writers:
 
     def _last(self, condition: Condition, before: int) -> Step | None:
         """Returns the last instruction before a count at which a condition holds."""
-        to, begin = before, self.run.first_count
-        for steps in (*NEAR, before):
-            first = max(before - steps, begin)
-            hit = Search(self.run, [condition], first, to, self.jobs if first == begin else 1).last() if first < to else None
-            if hit:
-                return hit.step
-            to = first
-        return None
+        first = self.run.first_count
+        hit = Search(self.run, [condition], first, before, self.jobs).last() if first < before else None
+        return hit.step if hit else None
 
     def _last_sum(self, part: Flags, before: int) -> Step | None:
         """Returns the last addition or subtraction before a count, which no condition of the library says: it is sought among

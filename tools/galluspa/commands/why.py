@@ -9,9 +9,9 @@ from pathlib import Path
 from textwrap import dedent
 
 from galluspa.analysis.origintexts import lines, objects
-from galluspa.analysis.timeline import Timeline
 from galluspa.analysis.writers import LINKS, MOST_LINKS, origins_asked
 from galluspa.engine.opening import opened
+from galluspa.engine.past import Past
 from galluspa.engine.tracing import add_workers_option
 from galluspa.formats.sessions import COUNTS
 from galluspa.formats.sourcetext import Sources, add_directory_option
@@ -55,7 +55,7 @@ def parser() -> Parser:
 def main(asked: Namespace) -> int:
     """Prints where a value comes from."""
     it = opened(asked, Limit(asked.limit))
-    run, symbols, count = Timeline(it.run), it.symbols, it.count(asked.at)
+    run, symbols, count = Past(it.run), it.symbols, it.count(asked.at)
     try:
         part, has_addresses = " ".join(asked.part), not asked.no_addresses
         values = origins_asked(run, run.machine(count), part, symbols, asked.links, asked.jobs, has_addresses)

@@ -12,11 +12,11 @@ from galluspa.analysis.lastwrites import last_write_asked
 from galluspa.analysis.naming import placed_lines
 from galluspa.analysis.rawconditions import Condition
 from galluspa.analysis.search import Hit, Search
-from galluspa.analysis.timeline import Timeline
 from galluspa.analysis.writers import LINKS, MOST_LINKS, origins_asked
 from galluspa.engine.library import Library
 from galluspa.engine.machine import Machine as RawMachine
 from galluspa.engine.following import EACH_RISE, Call as OpenCall, Follower
+from galluspa.engine.past import Past
 from galluspa.engine.program import Program
 from galluspa.engine.tracing import Run, RunFrom, Step
 from galluspa.formats import recording as recordings
@@ -239,7 +239,7 @@ class Machine:
         stores wrote has an Origin for the bytes of each. Raises Refused for what is none."""
         most = number("links", links, 1, MOST_LINKS)
         # Each link is a search from an earlier count on: machines that are kept on the way make it cheap.
-        run, names = Timeline(self._run), self.symbols._names
+        run, names = Past(self._run), self.symbols._names
         return [Origin.of(it, names) for it in origins_asked(run, self._machine, self._part(part), names, most)]
 
     def _part(self, part: str | int) -> str:
