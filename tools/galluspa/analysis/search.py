@@ -111,17 +111,22 @@ class Search:
         self._array = array_of(self._raws)
         self._are_the_librarys = all(it.is_so is it.test is it.after is None for it in conditions)
         self._is_seen_outside = {it.kind for it in self._raws} <= {SENDS, SENDS_BYTE, STOPS, TAKES}
-        starts = _apart([run.counts[it] for it in run.true if first < run.counts[it] < to], first)
-        ends = sorted({first, *starts, min(first + FIRST_ALONE, to), max(to - LAST_STEPS, first), to})
-        self._segments = [_Segment(at, *it) for at, it in enumerate(pairwise(ends))]
-        self._jobs = min(jobs, len(self._segments))
-        # Of each segment, the count before which all is searched, and the one from which on it is.
-        self._reached = [it.first for it in self._segments]
-        self._left = [it.end for it in self._segments]
+        self._jobs = jobs
         self._done, self._lock = 0, threading.Lock()
         self._is_over = threading.Event()
         self._has_stopped = False
         self.first_count, self.end = first, to
+        self._divide(first)
+
+    def _divide(self, near: int) -> None:
+        """Divides the range into segments at true checkpoints, and at the end of what one thread searches alone."""
+        first, to, run = self.first_count, self.end, self._run
+        starts = _apart([run.counts[it] for it in run.true if first < run.counts[it] < to], first)
+        ends = sorted({first, *starts, min(max(first, near), to), to})
+        self._segments = [_Segment(at, *it) for at, it in enumerate(pairwise(ends))]
+        # Of each segment, the count before which all is searched, and the one from which on it is.
+        self._reached = [it.first for it in self._segments]
+        self._left = [it.end for it in self._segments]
 
     @property
     def text(self) -> str:
@@ -149,6 +154,7 @@ class Search:
     def last(self) -> Hit | None:
         """The last hit."""
         self._run = Past.of(self._run)
+        self._divide(self.end - LAST_STEPS)
         found = self._each(self._last_of, reversed(self._segments))
         try:
             return next((hit for hit in found if hit), None)
@@ -157,6 +163,7 @@ class Search:
 
     def all(self, most: int) -> Iterator[Hit]:
         """The first hits, at most `most`, in the order of their counts."""
+        self._divide(self.first_count + FIRST_ALONE)
         if most > KEPT:
             self._jobs = 1
 
@@ -180,10 +187,9 @@ class Search:
 
     def _each(self, function: Callable[[_Segment, Run], T], segments: Iterable[_Segment]) -> Generator[T, None, None]:
         """What a function of a segment and a run gives for each segment, in their order: the first by this thread alone."""
-        segments = iter(segments)
-        alone = segments if self._jobs <= 1 else islice(segments, 1)
-        yield from (function(segment, self._run) for segment in alone)
-        if self._jobs <= 1:
+        segments, are_shared = iter(segments), self._jobs > 1 and len(self._segments) > 2
+        yield from (function(segment, self._run) for segment in (islice(segments, 1) if are_shared else segments))
+        if not are_shared:
             return
         self._is_over = threading.Event()
         library = replace(self._run.library, limit=_Watch(self._run.library.limit, self._is_over))

@@ -152,6 +152,9 @@ class Past(Run):
 
     def machine(self, count: int) -> Machine:
         """Returns the machine at a count."""
+        number = self.true_before(count)
+        if number is not None and self.counts[number] == count:
+            return self._run.machine(count)
         with self._part(count) as part:
             machine = part.machine(count, self.library.limit, lambda now: progress(f"at {now:,} of {count:,}"))
         progress("")
