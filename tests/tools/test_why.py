@@ -184,6 +184,23 @@ class CommandTest(FramesTest):
         self.assertEqual(debugged[0].splitlines(), lines)
         self.assertEqual(sum("  at " in line for line in debugged[2].splitlines()), 3)
 
+    def test_what_a_call_left_in_its_frame(self) -> None:
+        """A slot below R14 is free memory: what is read there was stored by a call that has returned."""
+        left = "Leaf: SUB SP, SP, 4\nSTR R1, SP, 0\nLDR R2, SP, 0\nADD SP, SP, 4\nB LNK\n"
+        made = self.assembled(
+            f"{left}Main: MOV SP, 2000H\nMOV R1, 7\nBL Leaf\nLDR R0, SP, -4\ndone: B done\nstart Main\ncheckpoints 20\n"
+        )
+        told = "Mem[001FFC] = 00000007  at 4  1  STR R1, R14, 0"
+        for part, more, ending in (
+            ("R0", (), "  stored by a call that has returned"),
+            ("R2", (), ""),
+            ("R0", ("--stack-limit", 0x1FFC), ""),
+            ("Mem[1FFCH]", ("--at", 6), ""),
+            ("Mem[1FFCH]", ("--at", 7), "  stored by a call that has returned"),
+        ):
+            found = next(line.strip() for line in self.lines_of("why", made, part, *more, errors=None) if told in line)
+            self.assertEqual(found.partition("  ;")[0], told + ending, (part, more))
+
     def test_for_machines(self) -> None:
         ran = tool("why", self.recording, "--at", 1870, "R0", "--links", 2, "--json")
         found = json.loads(ran.output)
