@@ -9,7 +9,7 @@ from typing import Any
 
 from galluspa.analysis.origins import Bytes, Dot, Flags, Register, Written, origins
 from galluspa.analysis.origintexts import objects
-from galluspa.analysis.timeline import Timeline
+from galluspa.engine.past import Past
 from galluspa.analysis.writers import Writers, part_asked, value_now
 from galluspa.analysis.addresses import moment_of
 from galluspa.engine.library import Library
@@ -93,13 +93,13 @@ def part_as_tool(part: dict[str, Any] | None) -> object:
     return {"address": part["address"], "bytes": [at for at in range(4) if part["mask"] >> at & 1]}
 
 
-def run_to(session: dict[str, Any], end: int) -> Timeline:
+def run_to(session: dict[str, Any], end: int) -> Past:
     """Returns the run of a session up to a count."""
     read = recording.read(record({**session, "checkpoints": [end]}))
-    return Timeline(Run(Library.find(None), read, range(len(read.checkpoints))))
+    return Past(Run(Library.find(None), read, range(len(read.checkpoints))))
 
 
-def answer(run: Timeline, asked: Question) -> list[dict[str, object]]:
+def answer(run: Past, asked: Question) -> list[dict[str, object]]:
     """Returns what the tools answer, as the command prints it."""
     value = value_now(asked.part, moment_of(run.machine(asked.before)))
     return objects(origins(Writers(run), asked.part, value, asked.before, asked.links), Symbols())
@@ -112,7 +112,7 @@ class Asked:
     name: str
     session: dict[str, Any]
     end: int
-    run: Timeline
+    run: Past
     questions: list[Question]
     is_small: bool = False
 

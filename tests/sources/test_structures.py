@@ -11,7 +11,7 @@ from galluspa.process import cli
 from tests.tools.samples import TOP
 
 HEADER = (TOP / "include/galluspa.h").read_text()
-UNITS: dict[str, Any] = {"uint8_t": ctypes.c_uint8, "uint32_t": ctypes.c_uint32, "uint64_t": ctypes.c_uint64}
+UNITS: dict[str, Any] = {"void": None, "uint8_t": ctypes.c_uint8, "uint32_t": ctypes.c_uint32, "uint64_t": ctypes.c_uint64}
 UNITS |= {"size_t": ctypes.c_size_t, "galluspa_state": structures.RawState}
 # A field that Python calls otherwise, since its name in C is a word of Python.
 CALLED = {"from": "first"}
@@ -35,7 +35,7 @@ def called(name: str) -> tuple[object, list[object]]:
     """Returns the type of the result of a call of the header, and those of its arguments, as ctypes has them."""
     found = re.search(rf"^(\w+) galluspa_{name}\(([^)]*)\);$", HEADER, re.MULTILINE)
     assert found, name
-    return UNITS[found[1]], [ctypes.c_void_p if "*" in it else UNITS[it.split()[0]] for it in found[2].split(",")]
+    return UNITS[found[1]], [ctypes.c_void_p if {"*", "["} & {*it} else UNITS[it.split()[0]] for it in found[2].split(",")]
 
 
 def number(name: str) -> int:
@@ -53,7 +53,7 @@ def test_structures_are_those_of_the_header() -> None:
 
 
 def test_calls_are_those_of_the_header() -> None:
-    assert len(structures.CALLS) == 9
+    assert len(structures.CALLS) == 15
     assert structures.CALLS == {name: called(name) for name in structures.CALLS}
 
 
@@ -76,9 +76,9 @@ def test_numbers_are_those_of_the_header() -> None:
     assert [number(name) for name in KINDS] == [getattr(rawconditions, name) for name in KINDS]
     assert number("LONGEST") + 1 == cli.MOST
     assert number("MAX_CONDITIONS") == rawconditions.MOST_CONDITIONS
-    assert (number("FIRST"), number("LAST")) == (library.FIRST, library.LAST)
+    assert number("LAST") == library.LAST
     assert f"#define GALLUSPA_AND {library.AND:#X}u\n".replace("0X", "0x") in HEADER
     refusals = ("OUT_OF_RANGE", "NO_ROOM", "OUT_OF_MEMORY", "NO_RECORDING", "NO_CHECKPOINT")
     assert sorted(library.REFUSALS) == [number(name) for name in refusals]
     assert (number("NO_ROOM"), number("OUT_OF_MEMORY")) == (library.NO_ROOM, library.NO_MEMORY)
-    assert number("NOT_FOUND") == library.NOT_FOUND
+    assert (number("NOT_FOUND"), number("MORE")) == (library.NOT_FOUND, library.MORE)

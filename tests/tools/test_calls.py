@@ -8,7 +8,7 @@ from operator import itemgetter
 from unittest import mock
 
 from galluspa.analysis.calls import Calls, RisingCalls
-from galluspa.analysis.timeline import Timeline
+from galluspa.engine.past import Past
 from galluspa.engine import following
 from galluspa.engine.following import EACH_RISE, Call
 from galluspa.engine.tracing import Run, Step
@@ -77,7 +77,7 @@ class CallsTest(ToolTest):
             depth, end = len(wanted[count]), len(wanted) - 1
             if depth:
                 left = next((at for at in range(count + 1, end + 1) if wanted[at][:depth] != wanted[count]), None)
-                self.assertEqual(Calls(Timeline(run), limit).end_of(depth, count, end), left, count)
+                self.assertEqual(Calls(Past(run), limit).end_of(depth, count, end), left, count)
         return wanted
 
     def test_they_are_those_of_random_programs(self) -> None:

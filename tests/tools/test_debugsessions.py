@@ -7,7 +7,7 @@ from dataclasses import dataclass, field, replace
 from itertools import count as count_from
 from pathlib import Path
 
-from galluspa.analysis.timeline import Timeline
+from galluspa.engine.past import Past
 from galluspa.debugger.commands import Commands
 from galluspa.debugger.navigation import Debugger
 from galluspa.engine.program import Program
@@ -254,7 +254,7 @@ class SessionsTest(ToolTest):
             machine = Independent(case.session).run(counts)
             if machine.done[0] is None:
                 continue
-            run = Timeline(run_of(record(replace(case.session, checkpoints=[counts]).text().encode())))
+            run = Past(run_of(record(replace(case.session, checkpoints=[counts]).text().encode())))
             for number in range(SESSIONS):
                 commands = Commands(Debugger(run, NONE, 1), Program(PROGRAM), Sources([Path("/none")]))
                 session = Session(rng, machine, Model(machine, counts), commands)

@@ -13,7 +13,7 @@ from galluspa.analysis.addresses import moment_of
 from galluspa.analysis.conditions import conditions_of
 from galluspa.analysis.expressions import constant
 from galluspa.analysis.expressiontexts import Parser
-from galluspa.analysis.timeline import Timeline
+from galluspa.engine.past import Past
 from galluspa.analysis.writers import part_asked
 from galluspa.debugger.commands import Commands
 from galluspa.debugger.navigation import Debugger
@@ -92,7 +92,7 @@ class HostileTest(ToolTest):
     def setUp(self) -> None:
         super().setUp()
         self.text = record(session([0x40080001, JUMP - 1], [100]))
-        self.run_there = Timeline(run_of(self.text))
+        self.run_there = Past(run_of(self.text))
         self.moment = moment_of(self.run_there.machine(50))
 
     def assert_refused_at_once(self, name: object, read: Callable[[], object]) -> None:

@@ -54,6 +54,14 @@ class InterfaceTest(ToolTest):
         with self.assertRaisesRegex(galluspa.Refused, "the bytes are not a recording"):
             next(galluspa.Machine.claims(STORED[:-1]))
 
+    def test_machines_of_many_counts_cost_one_run(self) -> None:
+        with galluspa.Recording(FACE) as recording, self.takes_at_most(2):
+            pointers = [recording.machine(count).state.pc for count in range(recording.end, 0, -100_000)]
+        machine = galluspa.Machine.claim(FACE)
+        for count, pointer in zip((100_000, 200_000), reversed(pointers)):
+            machine.advance(count)
+            self.assertEqual(machine.state.pc, pointer)
+
     def test_it_finds_what_the_tool_finds(self) -> None:
         path = self.file("face.orsr", FACE)
         machine = galluspa.Machine.claim(FACE, 1)

@@ -1,7 +1,7 @@
 """The moves of a debugger through a run, against a plain trace and the calls in it."""
 
 from galluspa.analysis.conditions import conditions_of
-from galluspa.analysis.timeline import Timeline
+from galluspa.engine.past import Past
 from galluspa.debugger.navigation import THE_BEGINNING, THE_END, Debugger
 from galluspa.engine.tracing import Run
 from galluspa.formats.symbolfiles import parsed
@@ -39,7 +39,7 @@ done:   B done
 """
 
 
-class TimelineTest(ToolTest):
+class NavigationTest(ToolTest):
     """The moves over a program with recursion, against the list of its steps."""
 
     def setUp(self) -> None:
@@ -54,21 +54,7 @@ class TimelineTest(ToolTest):
         return run_of(self.text)
 
     def debugger(self, count: int = 0, symbols: Symbols | None = None) -> Debugger:
-        return Debugger(Timeline(self.run_of()), self.symbols if symbols is None else symbols, 2, count)
-
-    def test_machines_are_those_of_the_run_in_any_order(self) -> None:
-        timeline = Timeline(self.run_of())
-        for count in (299, 3, 150, 149, 300, 0, 1, 77, 76, 75):
-            machine = timeline.machine(count)
-            self.assertEqual((machine.count, machine.memory()), (count, self.run_of().machine(count).memory()))
-            # What is done with a machine leaves those that are kept as they are.
-            machine.words[5000] = 1
-
-    def test_kept_machines_are_few(self) -> None:
-        timeline = Timeline(self.run_of())
-        for count in range(0, 300, 2):
-            timeline.machine(count)
-        self.assertEqual(len(timeline._kept), 48)
+        return Debugger(Past(self.run_of()), self.symbols if symbols is None else symbols, 2, count)
 
     def test_next_is_the_next_step_of_the_same_depth_or_less(self) -> None:
         end = len(self.steps)
@@ -140,7 +126,7 @@ class TimelineTest(ToolTest):
         self.assertEqual(over.count, forward[1])
 
     def test_a_machine_that_stops_ends_the_run(self) -> None:
-        debugger = Debugger(Timeline(run_of(record(session([0x40080001, 0x000C0000], [9])))), Symbols(), 1)
+        debugger = Debugger(Past(run_of(record(session([0x40080001, 0x000C0000], [9])))), Symbols(), 1)
         self.assertEqual((debugger.go_on().reasons, debugger.count), (["the machine has stopped (float)"], 2))
         self.assertEqual(debugger.go_on().reasons, ["the machine has stopped (float): it does nothing more"])
         self.assertIsNone(debugger.step())

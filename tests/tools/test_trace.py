@@ -74,7 +74,7 @@ class TraceTest(ToolTest):
 
     def test_shows_progress_on_a_terminal(self) -> None:
         recorded = self.recorded(COUNTING, [3_000_000])
-        self.assertIn(b"searched 524,288 of 3,000,000\r", on_terminal("trace", recorded, "--until", "stop"))
+        self.assertIn(b"searched 1,048,576 of 3,000,000\r", on_terminal("trace", recorded, "--until", "stop"))
         told = on_terminal("trace", recorded, "--until", "R5=1", "--to", 300)
         self.assertIn(b"searched 300 of 300\r\x1b[K\r", told)
 

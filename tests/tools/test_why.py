@@ -7,7 +7,7 @@ from dataclasses import replace
 
 from galluspa.analysis.origins import Bytes, Constant, Device, Elsewhere, Flags, Initial, Part, Register, Taken, Unfollowed, Value
 from galluspa.analysis.origins import Written, links_in, origins
-from galluspa.analysis.timeline import Timeline
+from galluspa.engine.past import Past
 from galluspa.analysis.writers import Writers
 from tests.programs import randomly
 from tests.programs.trial import Case
@@ -39,7 +39,7 @@ class OriginsTest(ToolTest):
         """Compares the trees of some values of a program with what the independent machine did. Gives how many links there were, and
         how they ended."""
         machine = Independent(case.session).run(case.counts)
-        run = Timeline(run_of(record(replace(case.session, checkpoints=[case.counts]).text().encode())))
+        run = Past(run_of(record(replace(case.session, checkpoints=[case.counts]).text().encode())))
         last = run.machine(case.counts)
         self.assertEqual((tuple(last.state.r), last.state.pc), (machine.states[-1].registers, machine.states[-1].pc))
         writers, links, ends = Writers(run), 0, set[type]()
@@ -127,7 +127,7 @@ class OriginsTest(ToolTest):
         # Seventeen times nothing; then R1 := the next key, again and again.
         words = [0x5000FFC0, *[0x42000000] * 20, *[0x8100001C] * 30, JUMP]
         inputs = [*((at // 2, "key", 0x40 + at) for at in range(20)), (25, "key", 0x70), (26, "key", 0x71)]
-        run = Timeline(run_of(record(session(words, [60], inputs))))
+        run = Past(run_of(record(session(words, [60], inputs))))
         found = []
         for count in range(22, 46):
             machine = run.machine(count)
@@ -143,7 +143,7 @@ class OriginsTest(ToolTest):
         # R0 := -64, the address of the device words; words and bytes of the mouse word; the key; the mouse word.
         words = [0x5000FFC0, *[0x81000018] * 4, 0x9100001B, 0x91000018, 0x8100001C, 0x81000018, JUMP]
         move = 1 << 24 | 3 << 12 | 5
-        run = Timeline(run_of(record(session(words, [10], [(2, "key", 0x61), (3, "mouse", move)]))))
+        run = Past(run_of(record(session(words, [10], [(2, "key", 0x61), (3, "mouse", move)]))))
         waits, none = ("keys", 1 << 28, 0x61), ("mouse", 0, None)
         wanted = {
             2: [none],
@@ -183,6 +183,23 @@ class CommandTest(FramesTest):
         debugged = ran.output.decode().partition("why dot 40,210\n")[2].partition("(2124) why/3")
         self.assertEqual(debugged[0].splitlines(), lines)
         self.assertEqual(sum("  at " in line for line in debugged[2].splitlines()), 3)
+
+    def test_what_a_call_left_in_its_frame(self) -> None:
+        """A slot below R14 is free memory: what is read there was stored by a call that has returned."""
+        left = "Leaf: SUB SP, SP, 4\nSTR R1, SP, 0\nLDR R2, SP, 0\nADD SP, SP, 4\nB LNK\n"
+        made = self.assembled(
+            f"{left}Main: MOV SP, 2000H\nMOV R1, 7\nBL Leaf\nLDR R0, SP, -4\ndone: B done\nstart Main\ncheckpoints 20\n"
+        )
+        told = "Mem[001FFC] = 00000007  at 4  1  STR R1, R14, 0"
+        for part, more, ending in (
+            ("R0", (), "  stored by a call that has returned"),
+            ("R2", (), ""),
+            ("R0", ("--stack-limit", 0x1FFC), ""),
+            ("Mem[1FFCH]", ("--at", 6), ""),
+            ("Mem[1FFCH]", ("--at", 7), "  stored by a call that has returned"),
+        ):
+            found = next(line.strip() for line in self.lines_of("why", made, part, *more, errors=None) if told in line)
+            self.assertEqual(found.partition("  ;")[0], told + ending, (part, more))
 
     def test_for_machines(self) -> None:
         ran = tool("why", self.recording, "--at", 1870, "R0", "--links", 2, "--json")

@@ -5,15 +5,16 @@ count depends on the run before it, a run is followed from its beginning, where 
 """
 
 from collections import deque
-from collections.abc import Sequence
+from collections.abc import Iterator, Sequence
 
-from galluspa.analysis.timeline import waypoints
 from galluspa.engine.following import EACH_RISE, NO_CALL, TURN, Call, Follower, Turn
 from galluspa.engine.tracing import Run
 from galluspa.process.cli import Parser, progress
 
 # The most followers that are kept, of a megabyte each, and the most calls that are open in all of them together.
 KEPT, MOST_KEPT_CALLS = 24, 1 << 19
+# On the way to a count some are kept, at these distances from it.
+DISTANCES = [4**power for power in range(13, 2, -1)]
 # The number of steps in which the end of a call is sought first.
 FIRST_STEPS = 1 << 12
 # The number of counts by which a trace is followed at once.
@@ -46,7 +47,7 @@ class Calls:
     def follower(self, count: int) -> Follower:
         """Returns a follower at a count, which the caller may lead on."""
         it = self._before(count)
-        for at in waypoints(it.machine.count, count):
+        for at in _waypoints(it.machine.count, count):
             while it.machine.count < at:
                 it.go_on(at)
                 progress(f"following calls: at {it.machine.count:,} of {count:,}")
@@ -105,3 +106,9 @@ class RisingCalls:
             if self._turns or machine.count >= count:
                 return self._open
             self._turns.extend(map(Turn._make, TURN.iter_unpack(self._follower.go_on(max(count, machine.count + AHEAD)))))
+
+
+def _waypoints(first: int, to: int) -> Iterator[int]:
+    """Counts on the way from one to another, ever nearer to it, and it."""
+    yield from (to - distance for distance in DISTANCES if to - distance > first)
+    yield to

@@ -9,6 +9,7 @@ from galluspa.analysis.expressions import Moment
 from galluspa.analysis.naming import placed_lines
 from galluspa.analysis.rawconditions import BECOMES, CHANGE, IS, REGISTER_NUMBERS, WRITES, WRITTEN, Condition, Raw, writing
 from galluspa.analysis.search import Search
+from galluspa.engine.past import Past
 from galluspa.engine.recorded import RawStep
 from galluspa.engine.tracing import Run, Step, step_of
 from galluspa.formats.recording import MEMORY_BYTES, WORD
@@ -44,7 +45,7 @@ def last_write_asked(run: Run, text: str, moment: Moment, symbols: Symbols, jobs
     """Returns the last write before a moment of a run of what a text names: a register, a part of a device, or a place of a
     condition, in which *ADDRESS and a register stand for the address that they are then; a dot is written where it changes. None if
     nothing wrote it. Raises Refused for what is none, and for several places."""
-    first, to = run.first_count, moment.state.count
+    run, first, to = Past.of(run), run.first_count, moment.state.count
     if part := register_named(text) or (text if text in WRITTEN and not symbols.places(text) else None):
         return last_write(run, part, first, to, jobs)
     words = place_words(text, moment, symbols)
@@ -61,6 +62,7 @@ def last_write_asked(run: Run, text: str, moment: Moment, symbols: Symbols, jobs
 def last_write(run: Run, part: str | int, first: int, to: int, jobs: int = 1) -> LastWrite | None:
     """Returns the last write of a part, or of the word of memory at an address, in the counts from `first` to `to`; None if
     nothing wrote it, or if there is no condition for the part."""
+    run = Past.of(run)
     if part in REGISTER_NUMBERS:
         step = last_writer(run, str(part), first, to, jobs)
         return LastWrite(first, step, _changed(run, str(part), step, first, jobs)) if step else None

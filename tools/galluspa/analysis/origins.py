@@ -104,6 +104,7 @@ End = Constant | Initial | Taken | Elsewhere | Unfollowed
 class Value:
     """A value that a part has before the instruction of a count, and where it comes from: the instruction that wrote it and the
     values that this used, or where the search ends. `role` says what it is to the instruction that uses it, if that is not plain.
+    A value of a stack slot has outlived its call if R14 was above the slot since: then it is free memory.
     """
 
     part: Part | None
@@ -113,6 +114,7 @@ class Value:
     step: Step | None = None
     end: End | None = None
     sources: list["Value"] = field(default_factory=list)
+    has_outlived_call: bool = False
 
 
 class Writes(Protocol):
@@ -124,6 +126,9 @@ class Writes(Protocol):
     def input_of(self, device: str, step: Step) -> Event | None:
         """Returns the input that set a device last, up to the instruction, or of keys the one whose key comes first; None if
         it is as at the beginning."""
+
+    def was_stack_above(self, address: int, first: int, last: int) -> bool:
+        """Returns whether R14 was above an address at one of the counts from `first` to `last`."""
 
 
 def origins(writes: Writes, part: Written, value: int, count: int, most: int, has_addresses: bool = True) -> list[Value]:
@@ -147,6 +152,8 @@ def origins(writes: Writes, part: Written, value: int, count: int, most: int, ha
             continue
         it.step = step
         more = _split(it, step, home)
+        slot = _slot_of(it.part, step)
+        it.has_outlived_call = slot is not None and writes.was_stack_above(slot, step.before.count + 1, it.count)
         if (it.part, step.before.count) in seen:
             it.end = Elsewhere()
         else:
@@ -170,6 +177,12 @@ def _cost(step: Step, source: Value) -> int:
     is_copy = word >> 30 == 2 or word >> 31 == 0 and word >> 16 & 15 == MOVE
     is_screen = isinstance(source.part, Bytes) and DISPLAY_START <= source.part.address < DISPLAY_END
     return (not is_copy) + bool(source.role) + SCREEN_COST * is_screen
+
+
+def _slot_of(part: Part, step: Step) -> int | None:
+    """Returns the address of the stack slot to which an instruction stores a part; None if it stores elsewhere."""
+    is_slot = isinstance(part, Bytes) and part.address < MEMORY_BYTES and f"R{(step.word or 0) >> 20 & 15}" == STACK_POINTER
+    return step.stored_at if is_slot else None
 
 
 def _split(it: Value, step: Step, home: list[Value]) -> list[Value]:

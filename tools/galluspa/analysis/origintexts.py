@@ -44,6 +44,8 @@ def line(it: Value, symbols: Symbols, sources: Sources | None = None) -> str:
     if it.step:
         word = it.step.word or 0
         shown += f"  at {it.step.before.count:,}  {it.step.before.pc}  {mnemonic(word)}"
+    if it.has_outlived_call:
+        shown += "  stored by a call that has returned"
     return with_remark(shown + _ending(it), _place(it, symbols, sources))
 
 

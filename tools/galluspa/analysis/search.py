@@ -1,12 +1,14 @@
 """Finds when a condition holds in the run of a recording: at which count first, at which last, and at all of them.
 
 A search goes through the segments between checkpoints that are known to be true, several of them at a time, and through
-each in slices of a part of a second. The library lists the hits of a slice, and records what the instructions there do.
+each in slices of a part of a second. The library lists the hits of a slice, and records what the instructions there do. The
+last hit is that of the past of a segment.
 """
 
 import ctypes
 import threading
 import time
+from collections import deque
 from collections.abc import Callable, Generator, Iterable, Iterator, Sequence
 from dataclasses import dataclass, replace
 from functools import cached_property, partial
@@ -15,8 +17,9 @@ from typing import TypeVar
 
 from galluspa.analysis.expressions import Moment
 from galluspa.analysis.rawconditions import SENDS, SENDS_BYTE, STOPS, TAKES, Condition, Raw
-from galluspa.engine.library import AND, FIRST, LAST
+from galluspa.engine.library import AND, ignore
 from galluspa.engine.machine import Inputs, Machine, Sent, slice_end, steps_after
+from galluspa.engine.past import Past
 from galluspa.engine.recorded import RawStep, steps_at
 from galluspa.engine.structures import RawCondition, RawHit
 from galluspa.engine.tracing import Run, Step, step_of
@@ -30,10 +33,12 @@ FIRST_STEPS, MOST_STEPS = 1 << 19, 1 << 22
 # What sends, stops or takes an input is seen from outside: how many steps are done at once, more if the machine waits, and
 # searched if need be.
 BLOCK_STEPS = 1 << 24
-# The fewest steps of a segment that is searched, but the last: each costs some milliseconds, however short it is.
+# The fewest steps of a segment that is searched, but the first and the last: each costs some milliseconds, however short it is.
 LEAST_SEGMENT = 1 << 20
-# The last hit is sought from the end of a segment backward: in LAST_STEPS, then in GROWTH times as many before them.
-LAST_STEPS, GROWTH = 1 << 22, 4
+# How many steps, forward and backward, are searched before the rest is shared among threads.
+FIRST_ALONE, LAST_STEPS = 1 << 20, 1 << 22
+# Where hits of pieces are listed backward, each piece has so many times the steps of the one after it.
+GROWTH = 4
 # How many hits are kept of each segment that is searched beside others; if callers take more, segments come one at a time.
 KEPT = 10_000
 # The most hits that a call of the library returns.
@@ -106,17 +111,22 @@ class Search:
         self._array = array_of(self._raws)
         self._are_the_librarys = all(it.is_so is it.test is it.after is None for it in conditions)
         self._is_seen_outside = {it.kind for it in self._raws} <= {SENDS, SENDS_BYTE, STOPS, TAKES}
-        starts = list(_apart([run.counts[it] for it in run.true if first < run.counts[it] < to], first))
-        self._segments = [_Segment(at, *ends) for at, ends in enumerate(pairwise([first, *starts, to]))]
-        self._jobs = min(jobs, len(self._segments))
-        # Of each segment, the count before which all is searched, the one from which on it is, and how much more is.
-        self._reached = [it.first for it in self._segments]
-        self._left = [it.end for it in self._segments]
-        self._more = [0 for _ in self._segments]
+        self._jobs = jobs
         self._done, self._lock = 0, threading.Lock()
         self._is_over = threading.Event()
         self._has_stopped = False
         self.first_count, self.end = first, to
+        self._divide(first)
+
+    def _divide(self, near: int) -> None:
+        """Divides the range into segments at true checkpoints, and at the end of what one thread searches alone."""
+        first, to, run = self.first_count, self.end, self._run
+        starts = _apart([run.counts[it] for it in run.true if first < run.counts[it] < to], first)
+        ends = sorted({first, *starts, min(max(first, near), to), to})
+        self._segments = [_Segment(at, *it) for at, it in enumerate(pairwise(ends))]
+        # Of each segment, the count before which all is searched, and the one from which on it is.
+        self._reached = [it.first for it in self._segments]
+        self._left = [it.end for it in self._segments]
 
     @property
     def text(self) -> str:
@@ -143,6 +153,8 @@ class Search:
 
     def last(self) -> Hit | None:
         """The last hit."""
+        self._run = Past.of(self._run)
+        self._divide(self.end - LAST_STEPS)
         found = self._each(self._last_of, reversed(self._segments))
         try:
             return next((hit for hit in found if hit), None)
@@ -151,11 +163,12 @@ class Search:
 
     def all(self, most: int) -> Iterator[Hit]:
         """The first hits, at most `most`, in the order of their counts."""
+        self._divide(self.first_count + FIRST_ALONE)
         if most > KEPT:
             self._jobs = 1
 
         def hits_of(segment: _Segment, run: Run) -> Iterable[Hit]:
-            hits = islice(self._hits_of(segment, run, most), most)
+            hits = islice(self._hits_of(segment, run, most, partial(self._tell, self._reached, segment)), most)
             if self._jobs > 1:
                 return _Kept(hits)
             return hits
@@ -173,17 +186,18 @@ class Search:
         self._tell_user("")
 
     def _each(self, function: Callable[[_Segment, Run], T], segments: Iterable[_Segment]) -> Generator[T, None, None]:
-        """What a function of a segment and a run gives for each segment, in their order."""
-        if self._jobs <= 1:
-            yield from (function(segment, self._run) for segment in segments)
+        """What a function of a segment and a run gives for each segment, in their order: the first by this thread alone."""
+        segments, are_shared = iter(segments), self._jobs > 1 and len(self._segments) > 2
+        yield from (function(segment, self._run) for segment in (islice(segments, 1) if are_shared else segments))
+        if not are_shared:
             return
         self._is_over = threading.Event()
         library = replace(self._run.library, limit=_Watch(self._run.library.limit, self._is_over))
         run = self._run.with_library(library)
         yield from children.in_parallel(self._jobs, lambda it: function(it, run), segments)
 
-    def _hits_of(self, segment: _Segment, run: Run, most: int) -> Iterator[Hit]:
-        tell, room = partial(self._tell, self._reached, segment), min(most, ROOM)
+    def _hits_of(self, segment: _Segment, run: Run, most: int, tell: Callable[[int], None]) -> Iterator[Hit]:
+        room = min(most, ROOM)
         for machine, end in self._slices(run, run.machine(segment.first), segment.end, tell):
             while machine.count < end:
                 later = machine.copy()
@@ -217,32 +231,28 @@ class Search:
 
     def _last_of(self, segment: _Segment, run: Run) -> Hit | None:
         """The last hit of a segment. What is near its end is searched first."""
-        starts, end = _starts(segment.first, segment.end), segment.end
-        machine, machines = run.machine(segment.first), []
-        for start in reversed(starts):
-            run.advance(machine, start)
-            machines.append(machine.copy())
-        for start in starts:
-            tell = partial(self._tell_more, segment, start)
-            if hit := self._last_in(run, machines.pop(), end, tell):
-                return hit
-            end = start
-            tell(start)
-            self._tell(self._left, segment, start)
+        past, tell = Past.of(run), partial(self._tell, self._left, segment)
+        if self._are_the_librarys and not self._is_seen_outside:
+            return self._last_in(segment, past, tell)
+        end, steps = segment.end, LAST_STEPS
+        while segment.first < end:
+            piece = _Segment(segment.number, max(segment.first, end - steps), end)
+            hits = self._hits_of(piece, past, ROOM, ignore)
+            if self._are_the_librarys and next(hits, None) is not None:
+                return self._last_in(piece, past, tell)
+            if last := deque(hits, 1):
+                return last[0]
+            end, steps = piece.first, GROWTH * steps
+            tell(end)
         return None
 
-    def _last_in(self, run: Run, machine: Machine, to: int, tell: Callable[[int], None]) -> Hit | None:
-        """The last hit from a machine's count up to another."""
-        found: tuple[tuple[int, Condition], Machine] | None = None
-        for start, end in self._slices(run, machine, to, tell):
-            if later := self._found(run, start, end):
-                found = later, start.copy()
-            run.advance(start, end)
-        if not found:
-            return None
-        (count, condition), near = found
-        run.advance(near, count)
-        return Hit(next(run.raw_steps(near, count + 1)), condition)
+    def _last_in(self, segment: _Segment, past: Past, tell: Callable[[int], None]) -> Hit | None:
+        """The last hit of a segment, of conditions of the library."""
+        if found := past.last(segment.first, segment.end, self._array, tell):
+            return Hit(next(past.raw_steps(past.machine(found.count), found.count + 1)), self._owners[found.condition])
+        self._has_stopped |= past.machine(segment.end).state.stop > 0
+        tell(segment.first)
+        return None
 
     def _slices(self, run: Run, machine: Machine, to: int, tell: Callable[[int], None]) -> Iterator[tuple[Machine, int]]:
         """The slices of a run up to a count in which something may be found: a machine, which has to be advanced
@@ -276,10 +286,6 @@ class Search:
             counts[segment.number] = count
         self._tell_user(f"searched {self._done:,} of {self.end - self.first_count:,}")
 
-    def _tell_more(self, segment: _Segment, first: int, count: int) -> None:
-        """Notes how far a piece of a segment is searched that is searched backward, from its first count up to another."""
-        self._tell(self._more, segment, count - first)
-
     def _may_hold(self, inputs: Inputs, before: Machine, after: Machine, sent: Sent) -> bool:
         """Whether something that is seen from outside comes about between two machines of a run, which sends this
         meanwhile."""
@@ -291,18 +297,6 @@ class Search:
             return {SENDS: sent.length > 0, STOPS: after.state.stop > 0, TAKES: raw.value in kinds}[raw.kind]
 
         return any(may(raw) for raw in self._raws)
-
-    def _found(self, run: Run, machine: Machine, end: int) -> tuple[int, Condition] | None:
-        """The last count of a slice at which a condition holds, and the condition."""
-        if self._are_the_librarys:
-            found = run.library.search(machine, run.inputs, end, self._array, LAST)
-            return (found[0], self._owners[found[1]]) if found else None
-        last, there = None, machine.copy()
-        while there.count < end:
-            before = there.copy()
-            for hit in self._hits_at(run, before, run.library.hits(there, run.inputs, end, self._array, ROOM)):
-                last = hit
-        return (last.count, last.condition) if last else None
 
 
 class _There:
@@ -334,8 +328,8 @@ class _There:
     def meets(self, count: int, condition: Condition) -> bool:
         """Whether a condition of the library holds at the instruction of a count."""
         self._run.advance(self._machine, count)
-        found = self._run.library.search(self._machine, self._run.inputs, count + 1, array_of(condition.raws), FIRST)
-        return found is not None
+        here = self._machine.copy()
+        return bool(self._run.library.hits(here, self._run.inputs, count + 1, array_of(condition.raws), 1))
 
 
 def _apart(counts: Iterable[int], first: int) -> Iterator[int]:
@@ -344,16 +338,6 @@ def _apart(counts: Iterable[int], first: int) -> Iterator[int]:
         if count - first >= LEAST_SEGMENT:
             first = count
             yield count
-
-
-def _starts(first: int, end: int) -> list[int]:
-    """Where the pieces of a segment begin, from the last one to the first one, each longer than the one after it."""
-    starts, steps = [], LAST_STEPS
-    while end - first > steps:
-        end -= steps
-        starts.append(end)
-        steps *= GROWTH
-    return [*starts, first]
 
 
 class _Kept:

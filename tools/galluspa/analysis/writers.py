@@ -23,6 +23,7 @@ from galluspa.analysis.origins import (
 )
 from galluspa.analysis.rawconditions import CHANGE, IS, KIND_NUMBERS, REGISTER_NUMBERS, STORE, WRITES, Condition, Raw
 from galluspa.analysis.search import Search
+from galluspa.engine.following import EACH_RISE
 from galluspa.engine.machine import Machine
 from galluspa.engine.recorded import STOP
 from galluspa.formats.devicewords import DEVICES_AT, LEDS_AT, MOST_KEYS
@@ -31,8 +32,7 @@ from galluspa.formats.recording import DISPLAY_START, MEMORY_BYTES, Event
 from galluspa.formats.symbols import Symbols, shown
 from galluspa.process.cli import Refused
 
-# The numbers of last instructions that are searched in turn before all: who wrote something last is mostly near.
-NEAR = (1 << 10, 1 << 16, 1 << 22)
+# The numbers of last instructions among which a sum is sought in turn.
 SUMS_NEAR = (1 << 8, 1 << 12, 1 << 17)
 # The kinds of inputs that set the devices from which one loads.
 KINDS_OF = {"switches": "switches", "mouse": "mouse", "serial": "serial", "timer": "timer", "keys": "key", "disk": "disk"}
@@ -47,6 +47,8 @@ class Writers:
 
     run: Run
     jobs: int = 1
+    # The highest R14 of the stack.
+    stack_limit: int = EACH_RISE
 
     def last_write(self, part: Written, before: int) -> Step | None:
         """Returns the last instruction before a count that wrote a part; of a dot, that changed it."""
@@ -56,14 +58,14 @@ class Writers:
 
     def _last(self, condition: Condition, before: int) -> Step | None:
         """Returns the last instruction before a count at which a condition holds."""
-        to, begin = before, self.run.first_count
-        for steps in (*NEAR, before):
-            first = max(before - steps, begin)
-            hit = Search(self.run, [condition], first, to, self.jobs if first == begin else 1).last() if first < to else None
-            if hit:
-                return hit.step
-            to = first
-        return None
+        first = self.run.first_count
+        hit = Search(self.run, [condition], first, before, self.jobs).last() if first < before else None
+        return hit.step if hit else None
+
+    def was_stack_above(self, address: int, first: int, last: int) -> bool:
+        """Returns whether R14 was above an address, and in the stack, at one of the counts from `first` to `last`."""
+        above = Condition("SP is above", (Raw(IS, REGISTER_NUMBERS["R14"], least=address + 1, most=self.stack_limit),))
+        return address < self.stack_limit and Search(self.run, [above], first, last + 1, self.jobs).first() is not None
 
     def _last_sum(self, part: Flags, before: int) -> Step | None:
         """Returns the last addition or subtraction before a count, which no condition of the library says: it is sought among
@@ -114,13 +116,13 @@ class Writers:
 
 
 def origins_asked(
-    run: Run, machine: Machine, text: str, symbols: Symbols, most: int = LINKS, jobs: int = 1, has_addresses: bool = True
+    writers: Writers, machine: Machine, text: str, symbols: Symbols, most: int = LINKS, has_addresses: bool = True
 ) -> list[Value]:
     """Returns where the value comes from that a machine of a run has in the part that a text names, by at most `most` links, with
     the addresses of loads and stores or without."""
     moment = moment_of(machine)
     part = part_asked(text, moment, symbols)
-    return origins(Writers(run, jobs), part, value_now(part, moment), machine.count, most, has_addresses)
+    return origins(writers, part, value_now(part, moment), machine.count, most, has_addresses)
 
 
 def _writing(part: Written) -> Condition:

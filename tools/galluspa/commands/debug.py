@@ -14,16 +14,16 @@ from textwrap import dedent
 from types import FrameType
 
 from galluspa.analysis.calls import add_stack_limit_option
-from galluspa.analysis.timeline import Interrupted, Patience, Timeline
 from galluspa.debugger.commands import COMMANDS, Commands, Ended
 from galluspa.debugger.navigation import Debugger
 from galluspa.engine.opening import opened
+from galluspa.engine.past import Past
 from galluspa.engine.tracing import add_workers_option
 from galluspa.formats.sessions import COUNTS
 from galluspa.formats.sourcetext import Sources, add_directory_option
 from galluspa.process.cli import FAILED, OK, REFUSED, Failed, Parser, Refused, complain, read_file
 from galluspa.process.escapes import printable
-from galluspa.process.timelimit import TimeIsUp
+from galluspa.process.timelimit import Interrupted, Patience, TimeIsUp
 
 # The most bytes of a file of commands.
 MOST_BYTES = 1 << 20
@@ -207,7 +207,7 @@ def main(asked: Namespace) -> int:
     """Debugs the recording that is named."""
     patience = Patience(asked.limit)
     it = opened(asked, patience)
-    run, at = Timeline(it.run), it.count(asked.at)
+    run, at = Past(it.run), it.count(asked.at)
     debugger = Debugger(run, it.symbols, asked.jobs, at, asked.stack_limit)
     shell = Shell(Commands(debugger, it.program, Sources.of(asked)), patience)
     try:

@@ -6,6 +6,7 @@ not the bytes of the files: a recording and the same one in another version of t
 
 from argparse import ArgumentTypeError, Namespace
 from collections.abc import Iterator, Sequence, Set
+from functools import lru_cache
 from pathlib import Path
 from textwrap import dedent
 
@@ -14,6 +15,7 @@ from galluspa.analysis.explanation import NOT_SOUGHT, table
 from galluspa.analysis.lastwrites import last_write
 from galluspa.analysis.naming import named_row
 from galluspa.engine.library import Library
+from galluspa.engine.past import Past
 from galluspa.engine.program import WORKERS, Program
 from galluspa.engine.tracing import Run
 from galluspa.formats.builds import tell_misfit
@@ -73,15 +75,16 @@ class Writers:
     """Says of a part that differs which instruction wrote it last in each of two recordings."""
 
     def __init__(self, library: Library, read: Sequence[Recording], names: Sequence[Symbols]) -> None:
-        self._sides = list(zip("AB", read, names, strict=True))
-        self._library = library
+        self._sides = list(zip("AB", names, strict=True))
+        # The pasts up to one checkpoint, in which several parts are sought.
+        self._past = lru_cache(2)(lambda side, at: Past(Run(library, read["AB".index(side)], range(at - 1, at))))
 
     def lines(self, it: Found) -> Iterator[str]:
         """Yields the lines that say so."""
         if it.part is None or not it.checkpoint:
             return
-        for side, read, symbols in self._sides:
-            run = Run(self._library, read, range(it.checkpoint - 1, it.checkpoint))
+        for side, symbols in self._sides:
+            run = self._past(side, it.checkpoint)
             first, end = run.counts[it.checkpoint - 1 : it.checkpoint + 1]
             if found := last_write(run, it.part, first, end, WORKERS):
                 yield from (f"    {side} {line}" for line in found.lines(symbols))

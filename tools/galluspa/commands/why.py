@@ -8,10 +8,11 @@ from argparse import Namespace
 from pathlib import Path
 from textwrap import dedent
 
+from galluspa.analysis.calls import add_stack_limit_option
 from galluspa.analysis.origintexts import lines, objects
-from galluspa.analysis.timeline import Timeline
-from galluspa.analysis.writers import LINKS, MOST_LINKS, origins_asked
+from galluspa.analysis.writers import LINKS, MOST_LINKS, Writers, origins_asked
 from galluspa.engine.opening import opened
+from galluspa.engine.past import Past
 from galluspa.engine.tracing import add_workers_option
 from galluspa.formats.sessions import COUNTS
 from galluspa.formats.sourcetext import Sources, add_directory_option
@@ -27,7 +28,8 @@ def parser() -> Parser:
             which values it made that, which instructions wrote these, and so on to constants, inputs and the initial
             memory. Each link is found by a search, and so it is the last write indeed. It follows values, and not the
             branches that led to an instruction; of loads and stores also the register with the address, unless that is
-            the stack pointer. Copies are followed first. A PART is
+            the stack pointer. Copies are followed first. What a call left in its frame, and what is read there after it has
+            returned, is said to be that. A PART is
               R0 to R15, SP, LNK, H    a register
               flags, LEDs              the flags N, Z, C and V; the LEDs
               ADDRESS, FIRST-LAST      a word of memory, or some of its bytes
@@ -45,6 +47,7 @@ def parser() -> Parser:
     options.add_flag("--no-addresses", "do not follow where the addresses of loads and stores come from")
     options.add_flag("--json", "print one JSON object")
     add_directory_option(options, "lines of sources")
+    add_stack_limit_option(options)
     options.add_symbols_option()
     add_workers_option(options)
     options.add_limit_option("end after this many seconds")
@@ -55,10 +58,11 @@ def parser() -> Parser:
 def main(asked: Namespace) -> int:
     """Prints where a value comes from."""
     it = opened(asked, Limit(asked.limit))
-    run, symbols, count = Timeline(it.run), it.symbols, it.count(asked.at)
+    run, symbols, count = Past(it.run), it.symbols, it.count(asked.at)
     try:
         part, has_addresses = " ".join(asked.part), not asked.no_addresses
-        values = origins_asked(run, run.machine(count), part, symbols, asked.links, asked.jobs, has_addresses)
+        writers = Writers(run, asked.jobs, asked.stack_limit)
+        values = origins_asked(writers, run.machine(count), part, symbols, asked.links, has_addresses)
     except TimeIsUp as over:
         raise Failed(f"{over}: not all links were found") from over
     if asked.json:

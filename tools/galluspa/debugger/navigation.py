@@ -13,16 +13,14 @@ from galluspa.analysis.inspection import entries_of
 from galluspa.analysis.lastwrites import first_change, last_change
 from galluspa.analysis.rawconditions import COUNTER, STOPS, Condition, Raw
 from galluspa.analysis.search import Hit, Search
-from galluspa.analysis.timeline import Timeline
 from galluspa.debugger.breakpoints import Point, conditions_in
 from galluspa.engine.following import EACH_RISE, Call
 from galluspa.engine.machine import Machine
+from galluspa.engine.past import Past
 from galluspa.engine.tracing import Step
 from galluspa.formats.recording import STOPS as STOP_NAMES, WORDS
 from galluspa.formats.symbols import Symbols
 
-# How many steps, forward and backward, are searched before the rest is shared among threads.
-NEAR_FORWARD, NEAR_BACKWARD = 1 << 20, 1 << 22
 THE_BEGINNING, THE_END = "the recording begins here", "the recording ends here"
 
 
@@ -52,7 +50,7 @@ STOPPING = Point(0, "stop", Condition("stop", (Raw(STOPS),)), is_after=True)
 class Debugger:
     """A machine at a count of a run, the points at which its moves pause, and those moves."""
 
-    run: Timeline
+    run: Past
     symbols: Symbols
     jobs: int
     count: int = 0
@@ -100,38 +98,27 @@ class Debugger:
 
     def first(self, conditions: Sequence[Condition], first: int, to: int) -> Hit | None:
         """Returns the first hit from a count up to another."""
-        hit = self._first([it for it in conditions if not it.register], first, to)
+        search = self._search(conditions, first, to)
+        hit = search.first() if search else None
         for it in conditions:
             # At the same count a condition of the library is the one that is named.
             if it.register and (raw := first_change(self.run, it.register, first, hit.count if hit else to)):
                 hit = Hit(raw, it)
         return hit
 
-    def _first(self, conditions: Sequence[Condition], first: int, to: int) -> Hit | None:
-        """Returns the first hit of conditions of the library."""
-        if not conditions:
-            return None
-        near = min(first + NEAR_FORWARD, to)
-        if first < near and (hit := Search(self.run, conditions, first, near).first()):
-            return hit
-        return Search(self.run, conditions, near, to, self.jobs).first() if near < to else None
-
     def last(self, conditions: Sequence[Condition], first: int, to: int) -> Hit | None:
         """Returns the last hit from a count up to another."""
-        hit = self._last([it for it in conditions if not it.register], first, to)
+        search = self._search(conditions, first, to)
+        hit = search.last() if search else None
         for it in conditions:
             if it.register and (raw := last_change(self.run, it.register, hit.count + 1 if hit else first, to)):
                 hit = Hit(raw, it)
         return hit
 
-    def _last(self, conditions: Sequence[Condition], first: int, to: int) -> Hit | None:
-        """Returns the last hit of conditions of the library."""
-        if not conditions:
-            return None
-        near = max(to - NEAR_BACKWARD, first)
-        if near < to and (hit := Search(self.run, conditions, near, to).last()):
-            return hit
-        return Search(self.run, conditions, first, near, self.jobs).last() if first < near else None
+    def _search(self, conditions: Sequence[Condition], first: int, to: int) -> Search | None:
+        """Returns the search for those conditions that are the library's; None if there is nothing to search."""
+        wanted = [it for it in conditions if not it.register]
+        return Search(self.run, wanted, first, to, self.jobs) if wanted and first < to else None
 
     # Moves forward
 

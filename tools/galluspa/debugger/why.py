@@ -5,7 +5,7 @@ from collections.abc import Iterator
 
 from galluspa.analysis.expressiontexts import literal
 from galluspa.analysis.origintexts import lines
-from galluspa.analysis.writers import LINKS, MOST_LINKS, origins_asked
+from galluspa.analysis.writers import LINKS, MOST_LINKS, Writers, origins_asked
 from galluspa.debugger.base import Base
 from galluspa.formats.symbols import shown
 from galluspa.process.cli import Refused
@@ -21,5 +21,6 @@ class Whys(Base):
         if most is None or not 1 <= most <= MOST_LINKS:
             raise Refused(f"{shown(text)}: expected why PART, or why/N PART with at most N links, up to {MOST_LINKS:,}")
         debugger, part = self.debugger, text[found.end() :] if found else text
-        values = origins_asked(debugger.run, debugger.machine, part, debugger.symbols, most, debugger.jobs)
+        writers = Writers(debugger.run, debugger.jobs, debugger.stack_limit)
+        values = origins_asked(writers, debugger.machine, part, debugger.symbols, most)
         yield from lines(values, debugger.symbols, self.sources)

@@ -9,6 +9,7 @@ from dataclasses import dataclass
 
 from galluspa.analysis.lastwrites import LastWrite, last_write
 from galluspa.engine.recorded import RECORD_BYTES
+from galluspa.engine.past import Past
 from galluspa.engine.tracing import Run, Step, line
 from galluspa.formats import states
 from galluspa.formats.devicewords import LOADED
@@ -148,6 +149,7 @@ def gave(run: Run, trace: TraceFile, parted: Parted) -> Gave | None:
     count, before = parted.instruction, parted.before
     if count is None or before is None:
         return None
+    run = Past.of(run)
     machine = run.machine(max(0, count - NEAR))
     steps = list(run.steps(machine, count + 1))
     if not steps or steps[-1].before.count != count:

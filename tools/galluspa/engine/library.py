@@ -32,9 +32,9 @@ REFUSALS = {
     4: "the bytes are not a recording",
     5: "the recording has no such checkpoint",
 }
-NOT_FOUND = 11
-# Which count a search is for.
-FIRST, LAST = 0, 1
+NOT_FOUND, MORE = 11, 12
+# The number of a search for the last count.
+LAST = 1
 # What is added to the kind of a condition that is joined to the next one of its list.
 AND = 1 << 31
 
@@ -43,19 +43,19 @@ def ignore(progress: object) -> None:
     """A progress callback that does nothing."""
 
 
-def _refusal(what: str, code: int) -> Refused:
+def refusal(what: str, code: int) -> Refused:
     """Why something is not done, by what the library returns."""
     return (Failed if code == NO_MEMORY else Refused)(f"{what}: {REFUSALS.get(code, f'the library returns {code}')}")
 
 
-def _sized(array: ctypes.Array | bytes) -> tuple[object, int]:
+def sized(array: ctypes.Array | bytes) -> tuple[object, int]:
     """Returns the two arguments of a call by which it reads or fills an array."""
     return array, len(array)
 
 
 def _start(machine: Machine, due: ctypes.Array) -> tuple[object, ...]:
     """Returns the first arguments of each call that runs a machine: its state, its memory, and the inputs that are due."""
-    return ctypes.byref(machine.state), *_sized(machine.words), *_sized(due)
+    return ctypes.byref(machine.state), *sized(machine.words), *sized(due)
 
 
 @dataclass(frozen=True)
@@ -97,18 +97,18 @@ class Library:
     def claim(self, text: bytes, at: int) -> Machine:
         """Returns the machine that a checkpoint of a recording claims; whether the claim is true is not tested."""
         machine = Machine(RawState(), Words())
-        code = self.calls.galluspa_claim(*_sized(text), at, ctypes.byref(machine.state), *_sized(machine.words))
+        code = self.calls.galluspa_claim(*sized(text), at, ctypes.byref(machine.state), *sized(machine.words))
         if code:
-            raise _refusal(f"cannot read checkpoint {at}", code)
+            raise refusal(f"cannot read checkpoint {at}", code)
         return machine
 
     def check(self, text: bytes) -> tuple[str, int]:
         """Returns the verdict line of a recording, and the program's exit status for it. One call takes the whole
         check."""
         line, status = ctypes.create_string_buffer(LINE_BYTES), ctypes.c_uint8()
-        length = self.calls.galluspa_check(*_sized(text), *_sized(line), ctypes.byref(status))
+        length = self.calls.galluspa_check(*sized(text), *sized(line), ctypes.byref(status))
         if not length:
-            raise _refusal("cannot check the recording", NO_MEMORY)
+            raise refusal("cannot check the recording", NO_MEMORY)
         return line.raw[:length].decode("ascii").rstrip("\n"), status.value
 
     def record(self, session: bytes) -> bytes:
@@ -116,9 +116,9 @@ class Library:
         status, room = ctypes.c_uint8(), len(session)
         while True:
             out = ctypes.create_string_buffer(room)
-            length = self.calls.galluspa_record(*_sized(session), *_sized(out), ctypes.byref(status))
+            length = self.calls.galluspa_record(*sized(session), *sized(out), ctypes.byref(status))
             if not length:
-                raise _refusal("cannot record", NO_MEMORY)
+                raise refusal("cannot record", NO_MEMORY)
             if length <= room:
                 break
             room = length
@@ -148,19 +148,6 @@ class Library:
                 heard(machine.count)
         return sent
 
-    def search(self, machine: Machine, inputs: Inputs, to: int, conditions: ctypes.Array, wanted: int) -> tuple[int, int] | None:
-        """Returns the first or the last count, from a machine's up to another, at which one of these conditions holds,
-        and the index of the first that does; None if none holds. One call takes all of this: so give it a slice."""
-        due, hit = inputs.raw(machine.count, to), RawHit()
-        code = self._code(
-            to - machine.count, self.calls.galluspa_find, *_start(machine, due), to, *_sized(conditions), wanted, ctypes.byref(hit)
-        )
-        if code == NOT_FOUND:
-            return None
-        if code:
-            raise _refusal(f"cannot search from {machine.count} to {to}", code)
-        return hit.count, hit.condition
-
     def hits(self, machine: Machine, inputs: Inputs, to: int, conditions: ctypes.Array, room: int) -> Sequence[RawHit]:
         """Returns the counts, from a machine's up to another, at which one of these conditions holds, each with the index
         of the first that does; `room` at most. The machine is advanced: to `to`, or to the count after the last of them if
@@ -173,12 +160,12 @@ class Library:
             self.calls.galluspa_hits,
             *_start(there, inputs.raw(machine.count, to)),
             to,
-            *_sized(conditions),
-            *_sized(hits),
+            *sized(conditions),
+            *sized(hits),
             ctypes.byref(number),
         )
         if code:
-            raise _refusal(f"cannot search from {machine.count} to {to}", code)
+            raise refusal(f"cannot search from {machine.count} to {to}", code)
         if there is not machine:
             machine.become(there)
         return hits[: number.value]
@@ -190,10 +177,10 @@ class Library:
         visits, departures = (Counts.from_buffer(it) for it in (counted.visits, counted.departures))
         due = inputs.raw(machine.count, to)
         code = self._code(
-            to - machine.count, self.calls.galluspa_profile, *_start(machine, due), to, *_sized(visits), *_sized(departures)
+            to - machine.count, self.calls.galluspa_profile, *_start(machine, due), to, *sized(visits), *sized(departures)
         )
         if code:
-            raise _refusal(f"cannot count from {machine.count} to {to}", code)
+            raise refusal(f"cannot count from {machine.count} to {to}", code)
         return counted
 
     def records(self, machine: Machine, inputs: Inputs, number: int) -> ctypes.Array[RawRecord]:
@@ -201,9 +188,9 @@ class Library:
         by their indices among those of these counts. One call takes all of this, so give it a slice."""
         first = machine.count
         records, due = (RawRecord * number)(), inputs.raw(first, first + number)
-        code = self.calls.galluspa_records(*_start(machine, due), *_sized(records))
+        code = self.calls.galluspa_records(*_start(machine, due), *sized(records))
         if code:
-            raise _refusal(f"cannot record {number} counts from {first} on", code)
+            raise refusal(f"cannot record {number} counts from {first} on", code)
         return records
 
     def follow(
@@ -223,13 +210,13 @@ class Library:
             *_start(there, inputs.raw(machine.count, to)),
             to,
             limit,
-            *_sized(open_calls),
+            *sized(open_calls),
             ctypes.byref(counts[0]),
-            *_sized(turned),
+            *sized(turned),
             ctypes.byref(counts[1]),
         )
         if code:
-            raise _refusal(f"cannot follow calls from {machine.count} to {to}", code)
+            raise refusal(f"cannot follow calls from {machine.count} to {to}", code)
         if there is not machine:
             machine.become(there)
             for mine, its in ((calls, open_calls), (turns, turned)):
@@ -243,11 +230,11 @@ class Library:
         due, length = inputs.raw(machine.count, to), SIZE()
         # What a thread works on is left to it, if a signal or the limit of time comes first.
         there = machine.copy() if steps > MOST_STEPS else machine
-        code = self._code(steps, self.calls.galluspa_advance, *_start(there, due), to, *_sized(room), ctypes.byref(length))
+        code = self._code(steps, self.calls.galluspa_advance, *_start(there, due), to, *sized(room), ctypes.byref(length))
         if code == NO_ROOM and steps > len(room):
             return None
         if code:
-            raise _refusal(f"cannot run the machine from {machine.count} to {to}", code)
+            raise refusal(f"cannot run the machine from {machine.count} to {to}", code)
         if there is not machine:
             machine.become(there)
         return Sent(ctypes.string_at(room, length.value), length.value)

@@ -147,8 +147,11 @@ def slice_end(machine: Machine, inputs: Inputs, steps: int, to: int, most: int =
 def steps_after(machine: Machine, steps: int, seconds: float, most: int = LONGEST_WAIT) -> int:
     """Returns how many steps the next slice has, at most, by the steps and the time of the last one. Once a machine has
     stopped it does nothing, however many they are."""
-    if machine.state.stop:
-        return COUNTS
+    return COUNTS if machine.state.stop else budget_after(steps, seconds, most)
+
+
+def budget_after(steps: int, seconds: float, most: int = LONGEST_WAIT) -> int:
+    """Returns the same of a machine that runs."""
     if seconds > 2 * SLICE_SECONDS:
         return min(max(int(steps * SLICE_SECONDS / seconds), LEAST_STEPS), steps)
     return max(min(2 * steps, most), 1) if seconds < SLICE_SECONDS / 2 else steps

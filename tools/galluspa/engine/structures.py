@@ -65,6 +65,14 @@ class RawTurn(ctypes.Structure):
     ]
 
 
+class RawExtent(ctypes.Structure):
+    """Where a past is, as include/galluspa.h lays it out."""
+
+    _fields_ = [(name, ctypes.c_uint64) for name in ("first", "end", "reached", "keyframes", "pages", "inputs")]
+
+
+# The handle of a past: zeros if none is open.
+Handle = ctypes.c_uint64 * 2
 POINTER, SIZE, COUNT, WORD, CODE = ctypes.c_void_p, ctypes.c_size_t, ctypes.c_uint64, ctypes.c_uint32, ctypes.c_uint8
 # Bytes or an array, and how many there are: what each call reads and fills.
 ARRAY = (POINTER, SIZE)
@@ -76,9 +84,15 @@ CALLS = {
     "record": (SIZE, [*ARRAY, *ARRAY, POINTER]),
     "claim": (CODE, [*ARRAY, WORD, POINTER, *ARRAY]),
     "advance": (CODE, [*RUN, COUNT, *ARRAY, POINTER]),
-    "find": (CODE, [*RUN, COUNT, *ARRAY, WORD, POINTER]),
     "hits": (CODE, [*RUN, COUNT, *ARRAY, *ARRAY, POINTER]),
     "profile": (CODE, [*RUN, COUNT, *ARRAY, *ARRAY]),
     "records": (CODE, [*RUN, *ARRAY]),
     "calls": (CODE, [*RUN, COUNT, WORD, *ARRAY, POINTER, *ARRAY, POINTER]),
+    "past_begin": (CODE, [POINTER, POINTER, *ARRAY, COUNT]),
+    "past_close": (None, [POINTER]),
+    "past_extent": (CODE, [POINTER, POINTER]),
+    "past_at": (CODE, [POINTER, COUNT, COUNT, COUNT, POINTER, POINTER, *ARRAY, POINTER]),
+    "past_input": (CODE, [POINTER, *ARRAY]),
+    "past_run": (CODE, [POINTER, COUNT, COUNT, *ARRAY, POINTER]),
+    "past_find": (CODE, [POINTER, COUNT, COUNT, *ARRAY, WORD, COUNT, POINTER, POINTER]),
 }

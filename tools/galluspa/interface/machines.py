@@ -3,6 +3,7 @@
 import io
 from collections.abc import Iterator, Mapping, Sequence
 from dataclasses import dataclass
+from functools import cached_property
 from typing import TYPE_CHECKING, Self, TypeVar
 
 from galluspa.analysis.addresses import address_in_memory, moment_of
@@ -12,11 +13,11 @@ from galluspa.analysis.lastwrites import last_write_asked
 from galluspa.analysis.naming import placed_lines
 from galluspa.analysis.rawconditions import Condition
 from galluspa.analysis.search import Hit, Search
-from galluspa.analysis.timeline import Timeline
-from galluspa.analysis.writers import LINKS, MOST_LINKS, origins_asked
+from galluspa.analysis.writers import LINKS, MOST_LINKS, Writers, origins_asked
 from galluspa.engine.library import Library
 from galluspa.engine.machine import Machine as RawMachine
 from galluspa.engine.following import EACH_RISE, Call as OpenCall, Follower
+from galluspa.engine.past import Past
 from galluspa.engine.program import Program
 from galluspa.engine.tracing import Run, RunFrom, Step
 from galluspa.formats import recording as recordings
@@ -123,7 +124,8 @@ class Machine:
     def close(self) -> None:
         """Releases the memory. Each later use raises ValueError."""
         self._is_closed = True
-        self.__dict__.pop("_there", None)
+        for name in ("_there", "_past"):
+            self.__dict__.pop(name, None)
         self._follower = None
 
     def __enter__(self) -> Self:
@@ -148,6 +150,11 @@ class Machine:
         """Returns the library's machine. Raises ValueError if this one is closed."""
         self._check_open()
         return self._there
+
+    @cached_property
+    def _past(self) -> Past:
+        """Returns the past of the run, in which each question about what was before is cheap."""
+        return Past.of(self._run)
 
     @property
     def count(self) -> int:
@@ -226,21 +233,20 @@ class Machine:
         """Returns the instruction before this count that wrote a part last; None if none did. `part` is a register, `LEDs`, an
         address, a name, `*SP+8`, or `dot X,Y`, which is written where it changes. Raises Refused for what is none."""
         moment, names = moment_of(self._machine), self.symbols
-        found = last_write_asked(self._run, self._part(part), moment, names._names)
+        found = last_write_asked(self._past, self._part(part), moment, names._names)
         if found is None:
             return None
         at = 4 * found.step.before.pc
         return Write(found.step, found.changed, names.name(at), names.line(at), placed_lines(found.step, names._names)[-1])
 
-    def why(self, part: str | int, links: int = LINKS) -> Sequence[Origin]:
+    def why(self, part: str | int, links: int = LINKS, stack_limit: int = EACH_RISE) -> Sequence[Origin]:
         """Returns where the value of a part comes from: who wrote it last, from which values, who wrote these, and so on, by at
         most `links` instructions, 1 to 200; one that writes a constant counts for none. Each is found by a search, so it is the
         last write indeed. `part` is a register, `flags`, `LEDs`, an address, a name, `*SP+8`, or `dot X,Y`. A word that several
-        stores wrote has an Origin for the bytes of each. Raises Refused for what is none."""
-        most = number("links", links, 1, MOST_LINKS)
-        # Each link is a search from an earlier count on: machines that are kept on the way make it cheap.
-        run, names = Timeline(self._run), self.symbols._names
-        return [Origin.of(it, names) for it in origins_asked(run, self._machine, self._part(part), names, most)]
+        stores wrote has an Origin for the bytes of each. `stack_limit` is as for `calls`. Raises Refused for what is none."""
+        most, limit = number("links", links, 1, MOST_LINKS), number("stack_limit", stack_limit, 0, EACH_RISE)
+        writers, names = Writers(self._past, stack_limit=limit), self.symbols._names
+        return [Origin.of(it, names) for it in origins_asked(writers, self._machine, self._part(part), names, most)]
 
     def _part(self, part: str | int) -> str:
         """Returns the text of a part; a number is the byte address of a word."""

@@ -9,6 +9,7 @@ from typing import Self
 
 from galluspa.analysis.search import Hit
 from galluspa.engine.library import Library
+from galluspa.engine.past import Past
 from galluspa.engine.program import Answer
 from galluspa.engine.tracing import Run
 from galluspa.formats.builds import misfit
@@ -32,7 +33,7 @@ class Recording:
         self._content = content("recording", recording)
         self.symbols = symbols or Symbols()
         try:
-            self._begun = Run.begun(self._library, self._content)
+            self._begun = Past(Run.begun(self._library, self._content))
         except Failed:
             raise
         except Refused as why:
@@ -56,7 +57,7 @@ class Recording:
 
     def close(self) -> None:
         """Releases the memory. Each later use raises ValueError; machines of the recording are not affected."""
-        for name in ("_content", "_begun", "_read"):
+        for name in ("_content", "_begun", "_checked", "_read"):
             self.__dict__.pop(name, None)
 
     def __enter__(self) -> Self:
@@ -105,18 +106,22 @@ class Recording:
         return b"".join(it.output for it in self.checkpoints)
 
     @property
-    def _run(self) -> Run:
+    def _run(self) -> Past:
         """Returns the run, from the checkpoints that are known to be true: the initial state, and others once there is a
         verdict."""
         self._is_open()
-        verdict: Verdict | None = self.__dict__.get("verdict")
-        if verdict is None:
-            return self._begun
-        return Run.of_answer(self._library, self._read, Answer(verdict.line.encode(), verdict.status))
+        return self._checked if "verdict" in self.__dict__ else self._begun
+
+    @cached_property
+    def _checked(self) -> Past:
+        """Returns the run from the checkpoints that the verdict finds true."""
+        answer = Answer(self.verdict.line.encode(), self.verdict.status)
+        return Past(Run.of_answer(self._library, self._read, answer))
 
     def machine(self, at: int = 0) -> Machine:
         """Returns the machine at a count of the run, whatever the checkpoints claim. The run begins at the initial state, or once
-        `verdict` was used, at the last true checkpoint. Raises ValueError if the count is below 0 or above 2^40."""
+        `verdict` was used, at the last true checkpoint; machines of many counts cost one run. Raises ValueError if the count is
+        below 0 or above 2^40."""
         return Machine(self._run, number("count", at, 0, COUNTS), self.symbols)
 
     def claim(self, checkpoint: int) -> Machine:

@@ -25,3 +25,25 @@ class Limit:
         if left <= 0:
             raise TimeIsUp(f"no answer in {self.seconds:g} s")
         return left
+
+
+class Interrupted(TimeIsUp):
+    """The user ends a search."""
+
+
+class Patience(Limit):
+    """The time that one command may take, which the user may also end."""
+
+    def __init__(self, seconds: float) -> None:
+        super().__init__(seconds)
+        self.is_interrupted = False
+
+    def begin(self) -> None:
+        """Begins another command."""
+        self._end = time.monotonic() + self.seconds
+        self.is_interrupted = False
+
+    def left(self) -> float:
+        if self.is_interrupted:
+            raise Interrupted("interrupted")
+        return super().left()

@@ -15,9 +15,8 @@ from galluspa.analysis.rawconditions import CHANGE, SENDS, Condition, Raw
 from galluspa.analysis.search import Search
 from galluspa.engine.following import NO_CALL, Follower
 from galluspa.engine.library import ignore
-from galluspa.engine.machine import Machine
 from galluspa.engine.recorded import PC
-from galluspa.engine.tracing import Run
+from galluspa.engine.past import Past
 from galluspa.formats.instructions import operands_of, writes
 from galluspa.formats.recording import DISPLAY_END, DISPLAY_START, MEMORY_BYTES, WORD
 from galluspa.formats.sessions import COUNTS
@@ -50,7 +49,7 @@ class Made:
 class Side:
     """The run of a version, up to the count at which it differs first, and its names."""
 
-    def __init__(self, run: Run, symbols: Symbols, stack_limit: int) -> None:
+    def __init__(self, run: Past, symbols: Symbols, stack_limit: int) -> None:
         self.run = run
         self._symbols = symbols
         self._stack_limit = stack_limit
@@ -58,8 +57,6 @@ class Side:
         self.start = 0
         self.calls: Sequence[Made] = ()
         self.open: Sequence[Made] = ()
-        # The machine at the last input, from which it is not far to the calls that are looked into.
-        self._near: Machine | None = None
 
     def seen(self) -> Iterator[tuple[object, int]]:
         """Yields what a user sees, in its order, with the counts."""
@@ -94,23 +91,14 @@ class Side:
 
     def values(self, count: int, names: set[str]) -> dict[str, str]:
         """Returns the values of registers at a count."""
-        registers = self._machine(count).seen().registers
+        registers = self.run.machine(count).seen().registers
         pairs = ((name, registers[at]) for at, name in enumerate(ARGUMENTS) if name in names)
         return {name: self._value(value, registers[STACK_POINTER]) for name, value in pairs}
-
-    def _machine(self, count: int) -> Machine:
-        if count < self.start:
-            return self.run.machine(count)
-        if self._near is None:
-            self._near = self.run.machine(self.start)
-        machine = self._near.copy()
-        self.run.advance(machine, count)
-        return machine
 
     def _reads(self, count: int, most: int, back: int | None) -> set[str]:
         """Returns the registers that are read in some instructions, up to a word, before they are written."""
         found, written = set[str](), set[str]()
-        for raw in self.run.raw_steps(self._machine(count), count + most):
+        for raw in self.run.raw_steps(self.run.machine(count), count + most):
             if raw.word is None or raw.before[PC] == back:
                 break
             found |= set(operands_of(raw.word)) - written

@@ -11,6 +11,7 @@ from galluspa.analysis.search import Search
 from galluspa.engine.following import Follower
 from galluspa.engine.library import Library, ignore
 from galluspa.engine.recorded import PC
+from galluspa.engine.past import Past
 from galluspa.engine.tracing import Run
 from galluspa.formats import recording
 from galluspa.formats.recording import DISPLAY_START
@@ -44,7 +45,7 @@ class Teller:
 
     def __init__(self, library: Library, version: Version) -> None:
         read = recording.read(version.ran.text)
-        self.run = Run(library, read, range(len(read.checkpoints)))
+        self.run = Past(Run(library, read, range(len(read.checkpoints))))
         self.symbols = version.symbols
         self.stack_limit = version.stack_limit
         self._looks = {it.name: it for it in version.ran.looks}
