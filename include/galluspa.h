@@ -494,6 +494,50 @@ uint8_t galluspa_past_find(galluspa_past *past, uint64_t from, uint64_t to, cons
 uint8_t galluspa_past_hits(galluspa_past *past, uint64_t *from, uint64_t to, const galluspa_condition *conditions,
                            size_t conditions_len, uint64_t budget, galluspa_hit *hits, size_t hits_len, size_t *hits_count);
 
+/* Records what the instructions of a past do, from the count *from up to but not including to: writes a record for each count to the
+ * front of records, which is not empty, as galluspa_records does, and their number to *records_count. *from is then the count after the
+ * last of them: to, if there is room. budget is how many instructions it may do to add keyframes up to *from, and how many records it may
+ * write; beside these a call does at most some two spacings of instructions.
+ *
+ * Returns GALLUSPA_DONE if all counts are recorded, or as many as there is room for; or GALLUSPA_MORE if the budget is spent: the records
+ * before the new *from are written. After either, a call with the same numbers goes on, until *from is to. Else it is
+ * GALLUSPA_OUT_OF_RANGE if *from is before the first count or after to, budget is 0, or records_len is 0; GALLUSPA_LATER if to is after
+ * the end; GALLUSPA_CLOSED; or GALLUSPA_OUT_OF_MEMORY (only if all is in range). Then nothing is written.
+ *
+ * A call holds at most some 600 bytes for each record, beside what galluspa_past_at holds. */
+uint8_t galluspa_past_records(galluspa_past *past, uint64_t *from, uint64_t to, uint64_t budget, galluspa_trace_record *records,
+                              size_t records_len, size_t *records_count);
+
+/* Counts how often the run of a past executes each word, from the count *from up to but not including to, as galluspa_profile does: adds
+ * the numbers to visits and departures, which both have GALLUSPA_WORDS elements. Begin with zeros. After 2^64 - 1 a number begins again
+ * at 0. budget is how many instructions it may do to add keyframes up to *from, and how many it may count, those of idle loops that are
+ * passed over too; beside these a call does at most some two spacings of instructions.
+ *
+ * Returns GALLUSPA_DONE, and *from is then to; or GALLUSPA_MORE if the budget is spent: all before the new *from is counted, so a call
+ * with the same numbers goes on, and nothing is counted twice. Else it is GALLUSPA_OUT_OF_RANGE if *from is before the first count or
+ * after to, budget is 0, or visits_len or departures_len is not GALLUSPA_WORDS; GALLUSPA_LATER if to is after the end; GALLUSPA_CLOSED; or
+ * GALLUSPA_OUT_OF_MEMORY (only if all is in range). Then nothing is written.
+ *
+ * A call holds some 6 MB beside what galluspa_past_at holds. */
+uint8_t galluspa_past_profile(galluspa_past *past, uint64_t *from, uint64_t to, uint64_t budget, uint64_t *visits, size_t visits_len,
+                              uint64_t *departures, size_t departures_len);
+
+/* Follows the calls of a past from the count *from up to the count to, as galluspa_calls does: calls holds the *calls_count calls that
+ * are open at *from, oldest first, and gets those that are open at the count that it came to, which is then *from: to, or the first count
+ * at which turns or calls is full. turns gets the counts at which the open calls changed, and *turns_count their number. So one call has
+ * both the turns of a range, and what is open at its end. Begin at the first count with no calls, and go on with what the last call left;
+ * keep what is open at some counts, to begin near another count. limit is as for galluspa_calls.
+ *
+ * budget is how many instructions it may do to add keyframes up to *from, and how many it may follow, those of idle loops that are passed
+ * over too; beside these a call does at most some two spacings of instructions. Returns GALLUSPA_DONE; or GALLUSPA_MORE if the budget is
+ * spent: then there is room for another turn and another call. After either, a call with the same numbers goes on, until *from is to.
+ *
+ * Else it is GALLUSPA_OUT_OF_RANGE if *from is before the first count or after to, budget is 0, or the calls or a length are as
+ * galluspa_calls refuses them; GALLUSPA_LATER if to is after the end; GALLUSPA_CLOSED; or GALLUSPA_OUT_OF_MEMORY (only if all is in
+ * range). Then nothing is written. A call holds calls and turns once more, beside what galluspa_past_at holds. */
+uint8_t galluspa_past_calls(galluspa_past *past, uint64_t *from, uint64_t to, uint32_t limit, uint64_t budget, galluspa_call *calls,
+                            size_t calls_len, size_t *calls_count, galluspa_turn *turns, size_t turns_len, size_t *turns_count);
+
 #ifdef __cplusplus
 }
 #endif

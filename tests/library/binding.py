@@ -92,7 +92,8 @@ class Library:
             getattr(self.c, f"galluspa_{name}").restype = ctypes.c_size_t
         for name in ("claim", "claims", "advance", "find", "hits", "profile", "records", "calls", "begin", "extend"):
             getattr(self.c, f"galluspa_{name}").restype = ctypes.c_uint8
-        for name in ("open", "begin", "extent", "at", "near", "input", "run", "cut", "branch", "find", "hits"):
+        pasts = "open", "begin", "extent", "at", "near", "input", "run", "cut", "branch", "find", "hits", "records", "profile", "calls"
+        for name in pasts:
             getattr(self.c, f"galluspa_past_{name}").restype = ctypes.c_uint8
         self.c.galluspa_past_close.restype = None
 
@@ -432,3 +433,53 @@ class Library:
         if any(it != (77, 78) for it in found[number:]) or (code not in (0, 12) and (at.value, count.value) != (start, 77)):
             fail("a search of a past for all hits writes something else than its answer")
         return code, found[:number], at.value
+
+    def records_in_past(self, past: Past, start: int, end: int, room: int, budget: int = 1 << 40) -> tuple[int, list[Record], int]:
+        """Returns the result of recording a range of a past, the records, and where to go on. Nothing else is to be written."""
+        records, count, at = (Record * (room + 1))(), ctypes.c_size_t(77), ctypes.c_uint64(start)
+        ctypes.memset(records, 0xAA, ctypes.sizeof(records))
+        asked = ctypes.byref(past), ctypes.byref(at), ctypes.c_uint64(end), ctypes.c_uint64(budget)
+        code = self.c.galluspa_past_records(*asked, records, ctypes.c_size_t(room), ctypes.byref(count))
+        number = count.value if code in (0, 12) else 0
+        if bytes(records)[ctypes.sizeof(Record) * number :].strip(b"\xaa"):
+            fail("records of a past write something after them")
+        if code not in (0, 12) and (at.value, count.value) != (start, 77):
+            fail("records of a past that were refused write something")
+        return code, list(records[:number]), at.value
+
+    def profile_past(
+        self, past: Past, start: int, end: int, counts: "Sequence[ctypes.Array[ctypes.c_uint64]]", budget: int = 1 << 40
+    ) -> tuple[int, int]:
+        """Returns the result of adding the visits and the departures of a range of a past to two arrays, and where to go on. Nothing is to be
+        written if it is refused."""
+        before, at = [bytes(it) for it in counts], ctypes.c_uint64(start)
+        asked = ctypes.byref(past), ctypes.byref(at), ctypes.c_uint64(end), ctypes.c_uint64(budget)
+        arrays = (part for it in counts for part in (it, ctypes.c_size_t(len(it))))
+        code = self.c.galluspa_past_profile(*asked, *arrays)
+        if code not in (0, 12) and (at.value, [bytes(it) for it in counts]) != (start, before):
+            fail("a profile of a past that was refused writes something")
+        return code, at.value
+
+    def follow_past(
+        self, past: Past, start: int, end: int, limit: int, present: Sequence[Call], rooms: tuple[int, int], budget: int = 1 << 40
+    ) -> tuple[int, list[Call], list[tuple[int, int, tuple[int, int, int, int]]], int]:
+        """Returns the result of following the calls of a range of a past, those that are open then, the turns, in arrays of these lengths,
+        and where to go on. Nothing else is to be written."""
+        size, at = ctypes.c_size_t, ctypes.c_uint64(start)
+        calls, turns = (Call * (max(rooms[0], len(present)) + 1))(), (Turn * (rooms[1] + 1))()
+        ctypes.memset(calls, 0xAA, ctypes.sizeof(calls))
+        ctypes.memset(turns, 0xAA, ctypes.sizeof(turns))
+        calls[: len(present)] = list(present)
+        kept, counts = (bytes(calls), bytes(turns)), (size(len(present)), size(77))
+        asked = ctypes.byref(past), ctypes.byref(at), ctypes.c_uint64(end), ctypes.c_uint32(limit), ctypes.c_uint64(budget)
+        lists = calls, size(rooms[0]), ctypes.byref(counts[0]), turns, size(rooms[1]), ctypes.byref(counts[1])
+        code = self.c.galluspa_past_calls(*asked, *lists)
+        done = code in (0, 12)
+        if not done and (at.value, counts[0].value, counts[1].value) != (start, len(present), 77):
+            fail("calls of a past that were refused write something")
+        lengths = (counts[0].value, counts[1].value) if done else (0, 0)
+        ends = ctypes.sizeof(Call) * lengths[0], ctypes.sizeof(Turn) * lengths[1]
+        if (bytes(calls)[ends[0] :], bytes(turns)[ends[1] :]) != (kept[0][ends[0] :], kept[1][ends[1] :]):
+            fail("what is after the calls and turns of a past changes")
+        noted = [(it.count, it.stay, (it.at, it.to, it.back, it.sp)) for it in turns[: lengths[1]]]
+        return code, list(calls[: lengths[0]]), noted, at.value

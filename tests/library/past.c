@@ -30,7 +30,7 @@ void __wrap_free(void *old) {
     __real_free(old);
 }
 
-enum { AT = 1000000, FROM = 200003, SPACING = 65536, FURTHER = 100000 };
+enum { AT = 1000000, FROM = 200003, SPACING = 65536, FURTHER = 100000, CALLS = 11 };
 static uint8_t text[1 << 20];
 static uint32_t words[GALLUSPA_WORDS];
 static galluspa_state first, state, own_state;
@@ -40,6 +40,10 @@ static size_t text_len, own_count;
 static uint8_t sent[4096];
 static galluspa_past branch;
 static galluspa_hit hit, hits[1];
+static galluspa_trace_record records[3];
+static uint64_t visits[GALLUSPA_WORDS], departures[GALLUSPA_WORDS];
+static galluspa_call open[9];
+static galluspa_turn turns[3];
 
 static void fail(const char *what) {
     printf("%s, request %lu\n", what, refused);
@@ -50,6 +54,8 @@ static uint8_t call(int which, galluspa_past *past, size_t *count) {
     galluspa_extent extent = {0};
     memset(&state, 0xAA, sizeof state), memset(slots, 0xAA, sizeof slots), memset(pages, 0xAA, sizeof pages);
     memset(sent, 0xAA, sizeof sent), memset(&hit, 0xAA, sizeof hit), memset(hits, 0xAA, sizeof hits);
+    memset(records, 0xAA, sizeof records), memset(visits, 0xAA, sizeof visits), memset(departures, 0xAA, sizeof departures);
+    memset(open, 0xAA, sizeof open), memset(turns, 0xAA, sizeof turns);
     *count = 77;
     galluspa_past_extent(past, &extent);
     galluspa_condition store = {.kind = GALLUSPA_STORE, .from = 0, .end = 1 << 24};
@@ -66,7 +72,11 @@ static uint8_t call(int which, galluspa_past *past, size_t *count) {
     }
     if (which == 6) return galluspa_past_branch(past, AT, &branch);
     if (which == 7) return galluspa_past_find(past, FROM, AT, &store, 1, GALLUSPA_LAST, UINT64_MAX, &hit, &at);
-    return galluspa_past_hits(past, &at, AT, &store, 1, UINT64_MAX, hits, 1, count);
+    if (which == 8) return galluspa_past_hits(past, &at, AT, &store, 1, UINT64_MAX, hits, 1, count);
+    if (which == 9) return galluspa_past_records(past, &at, AT, UINT64_MAX, records, 3, count);
+    if (which == 10) return galluspa_past_profile(past, &at, AT, UINT64_MAX, visits, GALLUSPA_WORDS, departures, GALLUSPA_WORDS);
+    size_t none = 0;
+    return galluspa_past_calls(past, &at, AT, UINT32_MAX, UINT64_MAX, open, 9, &none, turns, 3, count);
 }
 
 static int is_kept(const void *bytes, size_t size) {
@@ -90,7 +100,8 @@ static int answers(int which) {
     unsigned long made = calls;
     if (result && result != GALLUSPA_OUT_OF_MEMORY) fail("another answer");
     if (result && made < now) fail("no request was refused");
-    if (result && (count != 77 || !is_kept(&state, sizeof state) || !is_kept(slots, sizeof slots) || !is_kept(pages, sizeof pages) || !is_kept(sent, sizeof sent) || !is_kept(&hit, sizeof hit) || !is_kept(hits, sizeof hits))) fail("something is written");
+    if (result && (count != 77 || !is_kept(&state, sizeof state) || !is_kept(slots, sizeof slots) || !is_kept(pages, sizeof pages) || !is_kept(sent, sizeof sent) || !is_kept(&hit, sizeof hit) || !is_kept(hits, sizeof hits)
+        || !is_kept(records, sizeof records) || !is_kept(visits, sizeof visits) || !is_kept(departures, sizeof departures) || !is_kept(open, sizeof open) || !is_kept(turns, sizeof turns))) fail("something is written");
     galluspa_past_extent(&past, &is);
     if (which > 1 && result && (is.end != was.end || is.inputs != was.inputs)) fail("the past is another");
     if (branch.is_open != (which == 6 && !result)) fail("a branch is open, or not");
@@ -106,8 +117,25 @@ static int answers(int which) {
     return made >= now;
 }
 
+/* What is out of its range is refused for that, also without memory, and the past stays as it is. */
+static void refuse_first(void) {
+    galluspa_past past = {0};
+    galluspa_extent was = {0}, is = {0};
+    size_t count = 77;
+    if (galluspa_past_begin(&past, &first, words, GALLUSPA_WORDS, SPACING) || call(5, &past, &count)) fail("it is not run");
+    galluspa_past_extent(&past, &was);
+    for (refused = 1; refused < 4; refused++) {
+        calls = 0;
+        if (galluspa_past_run(&past, was.end - 1, 1, sent, sizeof sent, &count) != GALLUSPA_OUT_OF_RANGE) fail("a run back");
+        galluspa_past_extent(&past, &is);
+        if (calls || memcmp(&was, &is, sizeof is)) fail("what is out of range changes something");
+    }
+    refused = 0;
+    galluspa_past_close(&past);
+}
+
 int main(int argc, char **argv) {
-    static const char *name[] = {"open", "begin", "at", "near", "input", "run", "branch", "find", "hits"};
+    static const char *name[] = {"open", "begin", "at", "near", "input", "run", "branch", "find", "hits", "records", "profile", "calls"};
     galluspa_past past = {0};
     FILE *file = argc > 1 ? fopen(argv[1], "rb") : NULL;
     if (!file) return 9;
@@ -119,7 +147,8 @@ int main(int argc, char **argv) {
     memcpy(own_slots, slots, sizeof slots), memcpy(own_pages, pages, sizeof pages);
     galluspa_past_close(&past);
     if (blocks) return 9;
-    for (int which = 0; which < 9; which++) {
+    refuse_first();
+    for (int which = 0; which <= CALLS; which++) {
         for (refused = 1; answers(which);) refused++;
         printf("%s%s %lu", which ? ", " : "", name[which], refused - 1);
     }

@@ -6,7 +6,7 @@ from pathlib import Path
 
 import pytest
 
-from tests.library import calls, counts, examples, followed, header, pasts, refusals, searches
+from tests.library import calls, counts, examples, followed, header, pasts, ranges, refusals, searches
 from tests.library.binding import Library
 from tests.library.trial import EXAMPLES, TOP, WARNINGS, expect, run
 
@@ -35,6 +35,8 @@ TRIALS: Sequence[Callable[[Library], None]] = (
     pasts.refuse_live_pasts,
     pasts.search_pasts,
     pasts.refuse_past_searches,
+    ranges.ask_ranges,
+    ranges.refuse_ranges,
     calls.call_together,
     calls.read_together,
     calls.read_longest,

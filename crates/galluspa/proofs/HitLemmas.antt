@@ -22,7 +22,7 @@ pub written-more : (hits : List Hit) (out : List RawHit) (index : ℕ) (raw : Ra
     → ((k : ℕ) (e : RawHit) → k < index → IsWrittenAt hits k (get_or out k e)) → (k : ℕ) (e : RawHit) → k < index + 1 → IsWrittenAt hits k (get_or (set out index raw) k e)
 written-more hits out index raw d inside room is before = each_set (λ (k : ℕ) (x : RawHit). IsWrittenAt hits k x) out index raw room before (λ e. is ∙ get_or_default hits index d e inside)
 
-pub after-more : (old out : List RawHit) (from index : ℕ) (raw : RawHit) → index < from → ((k : ℕ) (e : RawHit) → from ≤ k → get_or out k e ≡ get_or old k e) → (k : ℕ) (e : RawHit) → from ≤ k → get_or (set out index raw) k e ≡ get_or old k e
+pub after-more : {A : Type 0} (old out : List A) (from index : ℕ) (raw : A) → index < from → ((k : ℕ) (e : A) → from ≤ k → get_or out k e ≡ get_or old k e) → (k : ℕ) (e : A) → from ≤ k → get_or (set out index raw) k e ≡ get_or old k e
 after-more old out from index raw before rest = λ k e later. get_or-set_other out index k raw e (λ same. absurd (omega (arith, before, later, same))) ∙ rest k e later
 
 -- all of them
@@ -36,7 +36,7 @@ written-all hits out index e done room each =
     ∙ ap (λ (raw : RawHit). hit_of raw) (get_or-take n out k e here)
     ∙ each k e (omega (arith, here, done)) d)
 
-pub after-all : (old out : List RawHit) (from : ℕ) → length out ≡ length old → ((k : ℕ) (e : RawHit) → from ≤ k → get_or out k e ≡ get_or old k e) → drop from out ≡ drop from old
+pub after-all : {A : Type 0} (old out : List A) (from : ℕ) → length out ≡ length old → ((k : ℕ) (e : A) → from ≤ k → get_or out k e ≡ get_or old k e) → drop from out ≡ drop from old
 after-all old out from count rest =
     same_lists (drop from out) (drop from old) (omega (arith, length-drop from out, length-drop from old, count)) (λ k e inside.
     get_or-drop from out k e ∙ rest (from + k) e (omega arith) ∙ sym (get_or-drop from old k e))

@@ -17,4 +17,5 @@ pub mod OpenLemmas
 mod LooseValues
 mod MomentLemmas
 mod LiveLemmas
+mod LogLemmas
 mod SealedValues

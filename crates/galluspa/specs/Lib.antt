@@ -12,6 +12,7 @@ pub mod Records
 pub mod Calls
 pub mod Past
 pub mod Live
+pub mod Ranges
 pub mod Searches
 pub mod Laws
 pub mod inner

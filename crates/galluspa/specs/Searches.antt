@@ -1,5 +1,5 @@
 -- Searches through a past behind a handle: what a caller asks, and what it gets (this project's own choice).
-use Rattle.std.specs.Prelude.{ℕ, ◌≡◌, ◌<◌, ◌≤◌, ◌==◌, if◌then◌else◌, List, length}
+use Rattle.std.specs.Prelude.{ℕ, ◌≡◌, ◌≤◌, ◌==◌, if◌then◌else◌, List, length}
 use Rattle.risc_search.specs.declared.condition.Clause.{Clause}
 use Rattle.risc_search.specs.declared.hit.Hit.{Hit}
 use Rattle.risc_search.specs.declared.hit.Hits.{Hits}
@@ -10,18 +10,18 @@ use Rattle.oberon_past.specs.declared.found.Which.{Which}
 use Rattle.oberon_past.specs.Past.{PastParts}
 use Rattle.oberon_past.specs.Search.{AreFound, IsFound}
 use Rattle.galluspa.specs.declared.conditions.RawCondition.{RawCondition}
+use Rattle.galluspa.specs.Ranges.{IsQuestion}
 use Rattle.galluspa.specs.Conditions.{AreClauses, AreConditions}
 
 -- the hit that a caller's number wants: the first if it is 0, and else the last
 abbrev pub which_of : ℕ → Which
 which_of wanted = if wanted == 0 then Which.First else Which.Last
 
--- what is asked about any past is in its range: at most 64 conditions, a range of counts that does not go back, and a budget
+-- what is asked about a range of any past is in its range, with at most 64 conditions
 pub record IsSearch (raws : List RawCondition) (from to budget : ℕ) : Type 0 where
   pub conditions : AreConditions raws
   pub few : length raws ≤ MAX_CONDITIONS
-  pub forward : from ≤ to
-  pub some : 0 < budget
+  pub question : IsQuestion from to budget
 
 -- the answer to a caller's question about one hit
 pub record HasFound (raws : List RawCondition) (wanted from to : ℕ) (found : Found) (p : PastParts) : Type 0 where

@@ -9,4 +9,4 @@ pub mod Counting
 pub mod Following
 pub mod Held
 pub mod Moments
-pub mod Searching
+pub mod Asking

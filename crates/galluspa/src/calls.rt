@@ -85,9 +85,32 @@ fn write_calls(calls: &[Call], out: &mut [Call])
     front.copy_from_slice(calls);
 }
 
+/// Writes the open calls and the turns of a log to the front of two lists, which have room for them, and their numbers.
+pub(crate) fn write_log(
+    log: &CallLog,
+    calls: &mut [Call],
+    calls_count: &mut usize,
+    turns: &mut [RawTurn],
+    turns_count: &mut usize,
+)
+    requires calls { length log.now.calls.items ≤ length calls.old }
+    requires turns { length log.now.turns.items ≤ length turns.old }
+    ensures calls { take calls_count.new calls.new ≡ log.now.calls.items }
+    ensures turns { take turns_count.new turns.new ≡ map raw_turn log.now.turns.items }
+    ensures calls_rest { drop calls_count.new calls.new ≡ drop calls_count.new calls.old }
+    ensures turns_rest { drop turns_count.new turns.new ≡ drop turns_count.new turns.old }
+    ensures calls_count { calls_count.new ≡ length log.now.calls.items }
+    ensures turns_count { turns_count.new ≡ length log.now.turns.items }
+{
+    write_calls(&log.calls, calls);
+    *calls_count = log.calls.len();
+    write_turns(&log.turns, turns);
+    *turns_count = log.turns.len();
+}
+
 /// Reports whether a run up to a count can have left these calls open: each branch is in memory and returns to the next word, their
 /// counts rise and are below the count, and R14 falls along those whose R14 is at most `limit`.
-fn are_open(calls: &[Call], limit: u32, count: u64) -> bool
+pub(crate) fn are_open(calls: &[Call], limit: u32, count: u64) -> bool
     ensures { IsTrue result ↔ AreOpen limit count calls.now }
 {
     // Of the calls from `next` on: the least count, and the highest R14 of the stack.
@@ -273,10 +296,7 @@ pub extern "C" fn galluspa_calls(
         turns.len(),
     ) {
         Ok(log) => {
-            write_calls(&log.calls, calls);
-            *calls_count = log.calls.len();
-            write_turns(&log.turns, turns);
-            *turns_count = log.turns.len();
+            write_log(&log, calls, calls_count, turns, turns_count);
             DONE
         }
         Err(RangeOrMemory::Range) => OUT_OF_RANGE,

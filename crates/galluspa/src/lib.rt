@@ -36,9 +36,13 @@ mod loose;
 mod moments;
 mod near;
 mod past;
+mod past_calls;
 mod past_find;
 mod past_hits;
+mod past_profile;
+mod past_records;
 mod profile;
+mod ranges;
 mod raw;
 mod records;
 mod refusal;
@@ -66,8 +70,11 @@ pub use near::galluspa_past_near;
 pub use past::{
     RawExtent, galluspa_past_begin, galluspa_past_close, galluspa_past_extent, galluspa_past_open,
 };
+pub use past_calls::galluspa_past_calls;
 pub use past_find::galluspa_past_find;
 pub use past_hits::galluspa_past_hits;
+pub use past_profile::galluspa_past_profile;
+pub use past_records::galluspa_past_records;
 pub use profile::galluspa_profile;
 pub use raw::{RawInput, RawState};
 pub use records::{RawRecord, galluspa_records};

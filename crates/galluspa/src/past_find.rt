@@ -5,13 +5,14 @@ ghost use Rattle.oberon_past.specs.Search.{Advances, IsRange};
 ghost use Rattle.galluspa.specs.Conditions.{hit_of};
 ghost use Rattle.galluspa.specs.Past.{Holds, HoldsBoth, IsClosed};
 ghost use Rattle.galluspa.specs.Searches.{HasFound, IsSearch, which_of};
-ghost use Rattle.galluspa.specs.inner.Searching.{IsUnsearched};
+ghost use Rattle.galluspa.specs.inner.Asking.{IsUnanswered};
 
 use crate::conditions::{RawCondition, RawHit, conditions_of};
 use crate::hits::raw_hit;
+use crate::ranges::Unanswered;
 use crate::refusal::{CLOSED, DONE, LATER, MORE, NOT_FOUND, OUT_OF_MEMORY, OUT_OF_RANGE};
 use crate::sealed::RawPast;
-use crate::searching::{Unsearched, budget_of};
+use crate::searching::budget_of;
 use oberon_past::{Found, Past, Which};
 use std::alloc::Global;
 
@@ -34,20 +35,20 @@ fn find_in(
     conditions: &[RawCondition],
     wanted: u32,
     budget: u64,
-) -> Result<Found, Unsearched>
+) -> Result<Found, Unanswered>
     ensures found { IfOk result (λ found. HasFound conditions.now wanted from to found past.old) }
     ensures search { OnOk result (IsSearch conditions.now from to budget) }
     ensures range { OnOk result (IsRange past.old.run past.old.end from to) }
     ensures which { OnOk result (wanted ≤ 1) }
-    ensures range_fault { IfErr result (λ refusal. refusal ≡ Unsearched.Range →
+    ensures range_fault { IfErr result (λ refusal. refusal ≡ Unanswered.Range →
         (1 < wanted) ⊎ ¬ (IsSearch conditions.now from to budget × (past.old.run.start ≤ from))) }
-    ensures refused { IfErr result (λ refusal. refusal ≢ Unsearched.Range →
-        (wanted ≤ 1) × IsUnsearched past.old conditions.now from to budget refusal) }
+    ensures refused { IfErr result (λ refusal. refusal ≢ Unanswered.Range →
+        (wanted ≤ 1) × IsUnanswered past.old (IsSearch conditions.now from to budget) from to refusal) }
     ensures longer { IsLonger past.old past.new }
     ensures advances { IfOk result (Advances past.old past.new (which_of wanted) from to) }
 {
     if wanted > 1 {
-        return Err(Unsearched::Range);
+        return Err(Unanswered::Range);
     }
     let budget = budget_of(past, from, to, conditions, budget)?;
     let conditions = conditions_of(alloc, conditions)?;
@@ -115,8 +116,8 @@ pub extern "C" fn galluspa_past_find(
             MORE
         }
         Ok(Found::OutOfRange(_)) => OUT_OF_RANGE,
-        Err(Unsearched::Range) => OUT_OF_RANGE,
-        Err(Unsearched::Later) => LATER,
-        Err(Unsearched::Memory) => OUT_OF_MEMORY,
+        Err(Unanswered::Range) => OUT_OF_RANGE,
+        Err(Unanswered::Later) => LATER,
+        Err(Unanswered::Memory) => OUT_OF_MEMORY,
     }
 }

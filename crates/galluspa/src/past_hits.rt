@@ -5,13 +5,14 @@ ghost use Rattle.oberon_past.specs.Search.{AdvancesAll, IsRange};
 ghost use Rattle.galluspa.specs.Conditions.{hit_of};
 ghost use Rattle.galluspa.specs.Past.{Holds, HoldsBoth, IsClosed};
 ghost use Rattle.galluspa.specs.Searches.{HaveFound, HaveWritten, IsSearch};
-ghost use Rattle.galluspa.specs.inner.Searching.{IsUnsearched};
+ghost use Rattle.galluspa.specs.inner.Asking.{IsUnanswered};
 
 use crate::conditions::{RawCondition, RawHit, conditions_of};
 use crate::hits::write_hits;
+use crate::ranges::Unanswered;
 use crate::refusal::{CLOSED, DONE, LATER, MORE, OUT_OF_MEMORY, OUT_OF_RANGE};
 use crate::sealed::RawPast;
-use crate::searching::{Unsearched, budget_of};
+use crate::searching::budget_of;
 use oberon_past::{AllFound, Past};
 use risc_search::Hits;
 use std::alloc::Global;
@@ -25,20 +26,20 @@ fn hits_in(
     conditions: &[RawCondition],
     budget: u64,
     room: usize,
-) -> Result<AllFound, Unsearched>
+) -> Result<AllFound, Unanswered>
     ensures found { IfOk result (λ found. HaveFound conditions.now from to room found past.old) }
     ensures search { OnOk result (IsSearch conditions.now from to budget) }
     ensures range { OnOk result (IsRange past.old.run past.old.end from to) }
     ensures some { OnOk result (0 < room) }
-    ensures range_fault { IfErr result (λ refusal. refusal ≡ Unsearched.Range →
+    ensures range_fault { IfErr result (λ refusal. refusal ≡ Unanswered.Range →
         (room ≡ 0) ⊎ ¬ (IsSearch conditions.now from to budget × (past.old.run.start ≤ from))) }
-    ensures refused { IfErr result (λ refusal. refusal ≢ Unsearched.Range →
-        (0 < room) × IsUnsearched past.old conditions.now from to budget refusal) }
+    ensures refused { IfErr result (λ refusal. refusal ≢ Unanswered.Range →
+        (0 < room) × IsUnanswered past.old (IsSearch conditions.now from to budget) from to refusal) }
     ensures longer { IsLonger past.old past.new }
     ensures advances { IfOk result (AdvancesAll past.old past.new from) }
 {
     if room == 0 {
-        return Err(Unsearched::Range);
+        return Err(Unanswered::Range);
     }
     let budget = budget_of(past, from, to, conditions, budget)?;
     let conditions = conditions_of(alloc, conditions)?;
@@ -118,8 +119,8 @@ pub extern "C" fn galluspa_past_hits(
             MORE
         }
         Ok(AllFound::OutOfRange(_)) => OUT_OF_RANGE,
-        Err(Unsearched::Range) => OUT_OF_RANGE,
-        Err(Unsearched::Later) => LATER,
-        Err(Unsearched::Memory) => OUT_OF_MEMORY,
+        Err(Unanswered::Range) => OUT_OF_RANGE,
+        Err(Unanswered::Later) => LATER,
+        Err(Unanswered::Memory) => OUT_OF_MEMORY,
     }
 }

@@ -49,7 +49,7 @@ pub struct RawRecord {
 
 /// Returns the record of an instruction, by the state before it and what it does.
 #[inline(always)]
-fn raw_record(state: RawState, effect: &Effect) -> RawRecord
+pub(crate) fn raw_record(state: RawState, effect: &Effect) -> RawRecord
     requires { IfSome effect.now.accessed HasBytes }
     ensures state { result.state ≡ state }
     ensures effect { effect_of result ≡ effect.now }

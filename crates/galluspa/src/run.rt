@@ -2,7 +2,7 @@
 ghost use Rattle.std.specs.Prelude.{◌≡◌, ◌≢◌, ◌≤◌, ◌<◌, ◌⊎◌, ◌↔◌, IfErr, IfOk, OnErr, OnOk, drop, length, take};
 ghost use Rattle.oberon_past.specs.Past.{IsLonger};
 ghost use Rattle.galluspa.specs.Live.{RunsOn};
-ghost use Rattle.galluspa.specs.Past.{Holds, HoldsBoth, IsClosed};
+ghost use Rattle.galluspa.specs.Past.{Holds, HoldsBoth, IsClosed, Keeps};
 
 use crate::front::copy_to_front;
 use crate::refusal::{CLOSED, DONE, MORE, NO_ROOM, OUT_OF_MEMORY, OUT_OF_RANGE, RangeOrMemory};
@@ -25,6 +25,7 @@ fn run_past(
     ensures rest { drop sent_count.new sent.new ≡ drop sent_count.new sent.old }
     ensures unsent { OnErr result ((sent.new ≡ sent.old) × (sent_count.new ≡ sent_count.old)) }
     ensures longer { OnErr result (IsLonger past.old past.new) }
+    ensures unmoved { IfErr result (λ refusal. refusal ≡ RangeOrMemory.Range → past.new ≡ past.old) }
     ensures in_range { OnOk result ((0 < budget) × (past.old.end ≤ to)) }
     ensures memory { IfErr result (λ refusal. refusal ≡ RangeOrMemory.Memory → (0 < budget) × (past.old.end ≤ to)) }
     ensures range { IfErr result (λ refusal. refusal ≡ RangeOrMemory.Range → (budget ≡ 0) ⊎ (to < past.old.end)) }
@@ -32,6 +33,9 @@ fn run_past(
     let Some(budget) = Steps::new(budget) else {
         return Err(RangeOrMemory::Range);
     };
+    if to < past.extent().end {
+        return Err(RangeOrMemory::Range);
+    }
     match past.run(alloc, to, budget, sent.len()) {
         Ok(progress) => {
             copy_to_front(&progress.sent, sent);
@@ -39,7 +43,7 @@ fn run_past(
             Ok(progress.ending)
         }
         Err(PastFault::Memory) => Err(RangeOrMemory::Memory),
-        Err(_) => Err(RangeOrMemory::Range),
+        Err(_) => unreachable!(),
     }
 }
 
@@ -51,7 +55,8 @@ fn run_past(
 /// sends a byte for which there is no room. A call with the same numbers goes on from there.
 ///
 /// Otherwise nothing is written, and the end stays. The result is 13 (`CLOSED`) if no past is open, 1 (`OUT_OF_RANGE`) if the budget
-/// is 0 or `to` is below the end, and 3 (`OUT_OF_MEMORY`) if memory ran out.
+/// is 0 or `to` is below the end; then the past stays as it is. It is 3 (`OUT_OF_MEMORY`) if memory ran out: then keyframes may have been
+/// added.
 #[unsafe(no_mangle)]
 pub extern "C" fn galluspa_past_run(
     alloc: Global,
@@ -72,6 +77,7 @@ pub extern "C" fn galluspa_past_run(
     ensures unsent { result ≢ DONE → result ≢ MORE → result ≢ NO_ROOM →
         (sent.new ≡ sent.old) × (sent_count.new ≡ sent_count.old) }
     ensures longer { (result ≡ OUT_OF_RANGE) ⊎ (result ≡ OUT_OF_MEMORY) → HoldsBoth IsLonger past.old past.new }
+    ensures unmoved { result ≡ OUT_OF_RANGE → Keeps past.old past.new }
     ensures kept { result ≡ CLOSED → past.new ≡ past.old }
     ensures closed { result ≡ CLOSED ↔ IsClosed past.old }
     ensures range { result ≡ OUT_OF_RANGE → (budget ≡ 0) ⊎ Holds (λ p. to < p.end) past.old }
