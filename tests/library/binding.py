@@ -92,7 +92,22 @@ class Library:
             getattr(self.c, f"galluspa_{name}").restype = ctypes.c_size_t
         for name in ("claim", "claims", "advance", "find", "hits", "profile", "records", "calls", "begin", "extend"):
             getattr(self.c, f"galluspa_{name}").restype = ctypes.c_uint8
-        pasts = "open", "begin", "extent", "at", "near", "input", "run", "cut", "branch", "find", "hits", "records", "profile", "calls"
+        pasts = (
+            "open",
+            "begin",
+            "extent",
+            "at",
+            "near",
+            "input",
+            "run",
+            "cut",
+            "branch",
+            "find",
+            "hits",
+            "records",
+            "profile",
+            "calls",
+        )
         for name in pasts:
             getattr(self.c, f"galluspa_past_{name}").restype = ctypes.c_uint8
         self.c.galluspa_past_close.restype = None
