@@ -5,6 +5,7 @@ pub mod Past
 pub mod Live
 pub mod Search
 pub mod Writes
+pub mod Origins
 pub mod Trace
 pub mod Profile
 pub mod Calls
