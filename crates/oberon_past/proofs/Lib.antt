@@ -11,3 +11,4 @@ mod Searches
 mod Traces
 mod Counting
 mod CallsFollowed
+mod Warming

@@ -2,3 +2,4 @@
 -- them.
 pub mod Kept
 pub mod Following
+pub mod Warm

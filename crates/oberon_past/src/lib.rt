@@ -23,6 +23,7 @@ mod searching;
 mod steps;
 mod traced;
 mod tracing;
+mod warm;
 
 pub use answer::Answer;
 pub use called::{Called, Calls};

@@ -1,5 +1,6 @@
 //! Tests of `risc_machine`: worked examples, and each call at least once.
 ghost use Rattle.std.specs.Prelude.{◌≡◌, ◌≤◌, ◌<◌, All, IfOk, IfSome, length};
+ghost use Rattle.risc_pages.specs.Tables.{IsNamed, table_words};
 
 use risc_devices::{Devices, Input};
 use risc_machine::{Counters, Machine};
@@ -888,6 +889,89 @@ fn run_in_two(alloc: Global, example: Example, cut: u64, steps: u64) -> Option<O
     }
 }
 
+/// Detaches a machine that began with the words of a table, and attaches it to the pool again.
+fn attached_again<'a>(
+    alloc: Global,
+    pool: &'a Pool,
+    table: &Table,
+    machine: Machine<'a>,
+) -> Option<Machine<'a>>
+    requires named { IsNamed pool.now table.now.numbers }
+    requires base { table_words pool.now table.now.numbers ≡ machine.entry.base }
+{
+    let Ok(detached) = machine.detach() else {
+        return None;
+    };
+    detached.attach(alloc, pool, table).ok()
+}
+
+/// Runs a machine of the example on a table in two such runs, and detaches it from its pool between them.
+fn outcome_detached(
+    alloc: Global,
+    pool: &Pool,
+    table: &Table,
+    example: Example,
+    cut: u64,
+    steps: u64,
+) -> Option<Outcome>
+    requires { IsNamed pool.now table.now.numbers }
+{
+    let inputs = inputs_of(alloc, &[])?;
+    let devices = Devices::with_timer(0, 0, 0).ok()?;
+    let cut = cut.min(steps);
+    let Ok(mut machine) = Machine::start(alloc, pool, table, cpu_of(example), devices) else {
+        return None;
+    };
+    let first = machine.run_matching(&inputs, 0, cut, &[]);
+    let mut machine = attached_again(alloc, pool, table, machine)?;
+    let second = machine.run_matching(&inputs, cut, steps, &[]);
+    match (first, second) {
+        (Ok(true), Ok(true)) => Some(outcome_of(&machine, 0)),
+        _ => None,
+    }
+}
+
+/// Runs a machine of the example on a table that it begins over anew before its run.
+fn outcome_rebased(
+    alloc: Global,
+    pool: &Pool,
+    table: &Table,
+    example: Example,
+    steps: u64,
+) -> Option<Outcome>
+    requires { IsNamed pool.now table.now.numbers }
+{
+    let inputs = inputs_of(alloc, &[])?;
+    let devices = Devices::with_timer(0, 0, 0).ok()?;
+    let Ok(machine) = Machine::start(alloc, pool, table, cpu_of(example), devices) else {
+        return None;
+    };
+    let Ok(detached) = machine.detach() else {
+        return None;
+    };
+    let Ok(mut machine) = detached.rebase(alloc, pool, table) else {
+        return None;
+    };
+    match machine.run_matching(&inputs, 0, steps, &[]) {
+        Ok(true) => Some(outcome_of(&machine, 0)),
+        _ => None,
+    }
+}
+
+/// Returns the state of an example after two runs, the first of `cut` steps, of a machine that is detached between them.
+fn run_in_two_detached(alloc: Global, example: Example, cut: u64, steps: u64) -> Option<Outcome> {
+    let pool = pool_of(alloc, example).ok()?;
+    let table = first_slot();
+    outcome_detached(alloc, &pool, &table, example, cut, steps)
+}
+
+/// Returns the state of an example after a run of a machine that begins over its table anew.
+fn run_rebased(alloc: Global, example: Example, steps: u64) -> Option<Outcome> {
+    let pool = pool_of(alloc, example).ok()?;
+    let table = first_slot();
+    outcome_rebased(alloc, &pool, &table, example, steps)
+}
+
 /// Returns the first row that fails in one run, if there is one.
 fn row_of_another_outcome(alloc: Global) -> Option<usize> {
     for (row, (example, steps, expected)) in rewritings().iter().enumerate() {
@@ -916,6 +1000,31 @@ fn ends_as_in_two(alloc: Global, example: Example, steps: u64, expected: Outcome
         }
     }
     true
+}
+
+/// Reports whether an example ends in this state in two runs of a machine that is detached between them, for each end of the first run.
+fn ends_as_detached(alloc: Global, example: Example, steps: u64, expected: Outcome) -> bool {
+    for cut in 0..steps {
+        if run_in_two_detached(alloc, example, cut, steps) != Some(expected) {
+            return false;
+        }
+    }
+    run_rebased(alloc, example, steps) == Some(expected)
+}
+
+/// Returns the first row that fails if the machine is detached, if there is one.
+fn row_of_another_outcome_detached(alloc: Global) -> Option<usize> {
+    for (row, (example, steps, expected)) in rewritings().iter().enumerate() {
+        if !ends_as_detached(alloc, *example, *steps, *expected) {
+            return Some(row);
+        }
+    }
+    None
+}
+
+#[test]
+fn runs_on_after_it_was_detached(rt: HostRuntime) {
+    check_rows(&rt, row_of_another_outcome_detached(rt.alloc()));
 }
 
 /// Returns the first row that fails in two runs, if there is one.

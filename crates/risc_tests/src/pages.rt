@@ -358,3 +358,42 @@ fn has_rising_changes_of_three(alloc: Global) -> bool {
 fn changes_rise(rt: HostRuntime) {
     assert!(rt; has_rising_changes_of_three(rt.alloc()));
 }
+
+/// Words of the memory with the pages full of 7 and of 8 in slots 0 and 2, after a write of 9 to word 515.
+const WRITTEN: [(u32, u32); 5] = [(0, 7), (512, 8), (515, 9), (767, 8), (262143, 0)];
+
+/// Writes a word of the memory of a table, detaches the memory, and attaches it to the pool again. Reports whether it has its words,
+/// its private page, and its delta.
+fn survives_detaching(alloc: Global, pool: &Pool, table: &Table) -> Option<bool>
+    requires { IsNamed pool.now table.now.numbers }
+{
+    let Ok(mut memory) = Memory::from_table(alloc, pool, table) else {
+        return None;
+    };
+    memory.write(515, 9).ok()?;
+    let Ok(detached) = memory.detach() else {
+        return None;
+    };
+    let Ok(memory) = detached.attach(alloc, pool, table) else {
+        return None;
+    };
+    let delta = memory.delta().ok()?;
+    let changed = delta.changed.as_slice();
+    let is_changed = changed.len() == 1 && is_change(&changed[0], 2, 8, 8, 8);
+    Some(is_changed && has_words(&memory, &WRITTEN) && are_owned(&memory, Some(2)))
+}
+
+/// Reports the same over the pool with three pages.
+fn survives_detaching_of_three(alloc: Global) -> Option<bool> {
+    let pool = pool_of(alloc, &THREE)?;
+    let table = table_of(&NAMES)?;
+    if !is_named(&pool, &table) {
+        return None;
+    }
+    survives_detaching(alloc, &pool, &table)
+}
+
+#[test]
+fn a_detached_memory_keeps_its_words(rt: HostRuntime) {
+    assert!(rt; survives_detaching_of_three(rt.alloc()) == Some(true));
+}
