@@ -897,7 +897,7 @@ fn attached_again<'a>(
     machine: Machine<'a>,
 ) -> Option<Machine<'a>>
     requires named { IsNamed pool.now table.now.numbers }
-    requires base { table_words pool.now table.now.numbers ≡ machine.entry.base }
+    requires base { table_words pool.now table.now.numbers ≡ machine.base }
 {
     let Ok(detached) = machine.detach() else {
         return None;
