@@ -11,4 +11,4 @@ mod Adding
 mod Searches
 mod Traces
 mod Counting
-mod CallsFollowed
+pub mod CallsFollowed
