@@ -12,3 +12,4 @@ mod Traces
 mod Counting
 mod CallsFollowed
 mod Drafts
+mod Checks

@@ -1,5 +1,6 @@
 -- The past of a run. Read it in this order: a run, a past, what it answers, how it changes, how it is recorded, what searches find in
--- it, what its instructions do, how often each word is executed, its calls.
+-- it, what its instructions do, how often each word is executed, its calls, the check of a
+-- recording.
 pub mod Run
 pub mod Past
 pub mod Live
@@ -8,4 +9,5 @@ pub mod Search
 pub mod Trace
 pub mod Profile
 pub mod Calls
+pub mod Check
 pub mod inner

@@ -7,6 +7,8 @@
 mod answer;
 mod called;
 mod calling;
+mod checked;
+mod checking;
 mod copying;
 mod draft;
 mod draft_fault;
@@ -29,6 +31,7 @@ mod tracing;
 
 pub use answer::Answer;
 pub use called::{Called, Calls};
+pub use checked::Checked;
 pub use draft::{Draft, Drafted};
 pub use draft_fault::DraftFault;
 pub use extent::Extent;

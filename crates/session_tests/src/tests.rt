@@ -2,6 +2,7 @@
 //! traces, profiles and calls of a past.
 
 mod calls;
+mod checks;
 mod disk;
 mod faults;
 mod parts;

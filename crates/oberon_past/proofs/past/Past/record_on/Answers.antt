@@ -41,7 +41,7 @@ returns-clause-drafted c =
     c.deref-2.result.now inputs c.requires.begun c.requires.on to-is ends c.in_ok-machine.ensures (c.in_ok-ran.ensures.state ends) stretch.sent
     (c.deref-2.ensures.value ∙ c.in_ok-extend_from_slice.ensures.items ∙ ap (λ (l : List ℕ). c.args.draft.sent.items ++ l) c.deref.ensures.value) in (
       subst (λ (o : Outcome). IsExtended c.args.draft.recording (next_inputs run c.args.draft.recording count) count o c.in_ok-recording.recording)
-      claim c.in_ok-recording.ensures.extended,
+          claim c.in_ok-recording.ensures.extended,
       refl,
       c.new.ensures.items,
     )
