@@ -28,8 +28,8 @@ def parser() -> Parser:
             which values it made that, which instructions wrote these, and so on to constants, inputs and the initial
             memory. Each link is found by a search, and so it is the last write indeed. It follows values, and not the
             branches that led to an instruction; of loads and stores also the register with the address, unless that is
-            the stack pointer. Copies are followed first. What a call left in its frame, and what is read there after it has
-            returned, is said to be that. A PART is
+            the stack pointer. Copies are followed first. A value that a call left in its frame, and that is read there after
+            the call has returned, is marked so. A PART is
               R0 to R15, SP, LNK, H    a register
               flags, LEDs              the flags N, Z, C and V; the LEDs
               ADDRESS, FIRST-LAST      a word of memory, or some of its bytes
