@@ -2,17 +2,17 @@
 //!
 //! This module compares the processor and the devices. `risc_pages` compares the pages, and `risc_machine` the bytes sent,
 //! while the machine runs.
-ghost use Rattle.std.specs.Prelude.{◌≡◌, IfNone};
+ghost use Rattle.std.specs.Prelude.{◌≡◌, ◌↔◌, ◌<◌, IfNone, IsTrue, List, length, ℕ};
 ghost use Rattle.risc_pages.specs.Tables.{IsNamed};
 ghost use Rattle.risc_model.specs.MachineState.{cpu_state};
 ghost use Rattle.oberon_format.specs.CheckpointParts.{checkpoint_parts};
-ghost use Rattle.oberon_format.specs.Defined.{claim_of};
+ghost use Rattle.oberon_format.specs.Defined.{claim_of, claimed};
 ghost use Rattle.oberon_format.specs.FirstFault.{first_broken};
-ghost use Rattle.oberon_check.specs.Difference.{register_parts, control_parts, cpu_parts, device_parts};
+ghost use Rattle.oberon_check.specs.Difference.{IsDifference, register_parts, control_parts, cpu_parts, device_parts};
 ghost use Rattle.oberon_check.specs.inner.Comparing.{IsDifferenceBy};
 
 use crate::part::Part;
-use oberon_format::Checkpoint;
+use oberon_format::{Checkpoint, Recording};
 use risc_devices::Devices;
 use risc_machine::Machine;
 use risc_model::Cpu;
@@ -116,4 +116,19 @@ pub(crate) fn first_difference(
         Some(slot) => Some(Part::Page(slot)),
         None => None,
     }
+}
+
+/// Returns the first part in which what checkpoint `k` claims differs from a machine. `same` says whether the bytes that the machine sent
+/// are those that the checkpoint claims. It allocates nothing.
+pub fn claim_difference(
+    machine: &Machine<'_>,
+    same: bool,
+    recording: &Recording,
+    k: u32,
+) -> Option<Part>
+    requires { k < length recording.now.checkpoints }
+    ensures { (sent : List ℕ) → (IsTrue same ↔ (sent ≡ (claimed recording.now k).sent))
+        → IsDifference (claimed recording.now k) (record { state = machine.now.state; sent = sent }) result }
+{
+    first_difference(machine, same, recording.pool(), recording.checkpoint(k))
 }

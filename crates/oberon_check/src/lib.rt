@@ -21,6 +21,7 @@ mod worker;
 
 pub use check::{CheckFault, check_recording};
 pub use collector::{CollectFault, collect};
+pub use difference::claim_difference;
 pub use gate::{FreeGate, Gate};
 pub use gathering::gather;
 pub use laws::{difference_law, line_law, migration_law, verdict_law, versions_law};
