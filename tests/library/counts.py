@@ -9,6 +9,7 @@ from typing import Any
 from galluspa.assembler.encoding import ALWAYS, DEVICES, DIV, EQ, MOV, NE, SUB, branch, imm, load, store
 from tests.library.binding import WORDS, Input, Library, Record, State, Words
 from tests.library.trial import EXAMPLES, PROGRAM, WARNINGS, expect, fail, run
+from tests.support.slowness import is_within
 
 # The text of hello.json has 13 bytes, and its loop the words 2 to 6; the branch at 3 leads to 7 at the byte of 0, and 7 is a jump to itself.
 HELLO = {0: (1, 0), 1: (1, 0), 2: (14, 0), 3: (14, 1), 4: (13, 0), 5: (13, 0), 6: (13, 13), 7: (31, 31)}
@@ -135,7 +136,7 @@ def skip_idle_loops(library: Library) -> None:
         wanted = {at + index: (rounds + (index < rest), 0) for index in range(len(loop))}
         wanted[at + len(loop) - 1] = rounds, rounds
         expect(f"the counts of {name}", (code, counted(visits, departures)), (0, wanted))
-        if seconds > MOST_SECONDS:
+        if not is_within(seconds, MOST_SECONDS):
             fail(f"a profile of {name} takes {seconds:.1f} s of a processor for {IDLE_COUNTS} counts")
     print(f"profile: {len(IDLE)} idle loops of {IDLE_COUNTS} counts are not done step by step")
 

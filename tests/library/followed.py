@@ -9,6 +9,7 @@ from galluspa.assembler.encoding import ADD, ALWAYS, MOV, SUB, branch, branch_re
 from tests.library.binding import WORDS, Call, Input, Library, State
 from tests.library.counts import IDLE, IDLE_COUNTS, LAST, MOST_SECONDS, TRIES, machine
 from tests.library.trial import TOP, WARNINGS, expect, fail, run
+from tests.support.slowness import is_within
 
 NAIVE = Path(__file__).with_name("followed.c")
 SEEDS, PROGRAMS = (1, 2, 3), 2000
@@ -138,7 +139,7 @@ def follow_idle_loops(library: Library) -> None:
             if seconds <= MOST_SECONDS:
                 break
         expect(name, (refused, state.count, len(calls), len(turns)), (0, IDLE_COUNTS, 0, 0))
-        if seconds > MOST_SECONDS:
+        if not is_within(seconds, MOST_SECONDS):
             fail(f"to follow {name} takes {seconds:.1f} s of a processor for {IDLE_COUNTS} counts")
     state, memory = started(code((0, [call(0, 4), jump(1, 1)]), (4, [jump(4, 4)])))
     refused, calls, turns = library.follow(state, memory, [], 1 << 40, ALL, [], (9, 9))

@@ -17,6 +17,7 @@ from tests.library.trial import mutants
 from tests.page.driver.given import MOST_INPUTS, STORING, with_inputs
 from tests.page.driver.node import answers, asked, bundled, called, ran_by_node
 from tests.page.driver.desk import PAGE, expect, fail, program
+from tests.support.slowness import is_within
 from tests.tools.samples import EXAMPLES, JUMP, PROGRAM, STORED, TOP, group, record, rejoining, run, session
 
 
@@ -177,7 +178,7 @@ def test_times(tmp_path: Path) -> None:
     """Comparing two memories, and passing on what was typed before a million inputs of a file, take no frame's time."""
     comparing, (inputs, feeding) = called(tmp_path, [("comparing", {}), asked("feeding", with_inputs(MOST_INPUTS))])
     expect("opening a million inputs", inputs, MOST_INPUTS)
-    if comparing > 8 or feeding > 5:
+    if not is_within(comparing, 8) or not is_within(feeding, 5):
         fail(f"comparing two memories takes {comparing:.1f} ms, and passing on what was typed {feeding:.1f} ms")
 
 

@@ -82,7 +82,7 @@ MANY = f"""
 
 
 def test_list_hundred(desk: Desk) -> None:
-    """To bring one back in a list of a hundred projects costs a fifth of a second."""
+    """To bring one back in a list of a hundred projects costs a fifth of a second on a fast machine."""
     page = desk.page
     desk.open_source("draws.asm", DRAWS)
     run_with_key(desk, "a")
@@ -104,7 +104,7 @@ def test_list_hundred(desk: Desk) -> None:
         page.wait(f"!{undo} && {shown('kept-number')} === '101'")
         took.append(1000 * (page.task_seconds() - before))
     expect("the pictures", page.answer("el('kept-list').querySelectorAll('canvas').length"), 101)
-    if min(took) > 2 * LONGEST_TASK_MS:
+    if min(took) > page.allowed(2 * LONGEST_TASK_MS):
         fail(f"a list of a hundred projects took {took} ms")
 
 

@@ -45,7 +45,7 @@ def test_check_hour(desk: Desk) -> None:
     own = 1000 * (after.children_user + after.children_system - before.children_user - before.children_system)
     took = milliseconds_to_check(desk, "hour.orsr", recording)
     expect("the line of an hour", desk.page.answer(LINE), ran.output.decode().rstrip("\n"))
-    if took > max(2 * own, HOUR_MS):
+    if took > max(2 * own, desk.page.allowed(HOUR_MS)):
         fail(f"the check of an idle hour takes the page {took:.0f} ms of the processor, and the program {own:.0f} ms")
 
 
@@ -64,5 +64,5 @@ def test_run_to_last_count(desk: Desk) -> None:
     checked = milliseconds_to_check(desk, "waits.orsr", record(note))
     expect("the line of its recording", page.answer(LINE), f"accepted 4 checkpoints {LAST} steps")
     desk.set_speed("clock")
-    if max(min(took), checked) > LAST_MS:
+    if max(min(took), checked) > page.allowed(LAST_MS):
         fail(f"a run to 2^40 takes {min(took):.0f} ms of the processor, and its check {checked:.0f} ms")

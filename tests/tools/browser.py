@@ -7,6 +7,7 @@ import base64
 import json
 import os
 import select
+import statistics
 import subprocess
 import tempfile
 import time
@@ -40,6 +41,18 @@ PATIENCE = 120
 # What the browser traces, so that it is known how long tasks take, and the threads of a page and of its workers.
 TRACED = {"includedCategories": ["disabled-by-default-devtools.timeline"], "excludedCategories": ["*"]}
 TASK, MAIN_THREAD, WORKER_THREAD = "RunTask", "CrRendererMain", "DedicatedWorker thread"
+
+# A piece of a page's work, and the milliseconds of a processor that it takes on the machine for which limits of such milliseconds are given.
+PIECE = """
+(() => {
+  const box = document.body.appendChild(document.createElement('div'));
+  for (let at = 0; at < 3000; at++) box.appendChild(document.createElement('span')).textContent = `row ${at}`;
+  const height = box.offsetHeight;
+  box.remove();
+  return height + JSON.stringify(Array.from({ length: 20000 }, (_, at) => ({ at, text: `row ${at}` }))).length;
+})()
+"""
+PIECE_MS = 20
 
 # Seconds that a page whose test failed has to show itself once more.
 LAST_PATIENCE = 20
@@ -343,6 +356,16 @@ class Page:
         found = {one["name"]: one["value"] for one in self._ask("Performance.getMetrics")["metrics"]}
         seconds: float = found["TaskDuration"]
         return seconds
+
+    def allowed(self, ms: float) -> float:
+        """Returns how many milliseconds of a processor that may take, here and now, which may take `ms` elsewhere: more by as much as a piece of
+        work takes longer."""
+        took = []
+        for _ in range(5):
+            before = self.task_seconds()
+            self.answer(PIECE)
+            took.append(1000 * (self.task_seconds() - before))
+        return ms * max(1, statistics.median(took) / PIECE_MS)
 
     @contextmanager
     def measuring(self) -> Iterator[Tasks]:

@@ -22,6 +22,7 @@ from galluspa.engine.program import Program
 from galluspa.engine.tracing import Run
 from galluspa.formats.recording import Checkpoint, Event, Recording, page_of, read, table_of, write
 from galluspa.process.cli import Refused
+from tests.support.slowness import is_within
 
 TOP = Path(__file__).resolve().parents[2]
 TOOLS = TOP / "tools"
@@ -209,11 +210,12 @@ class ToolTest(unittest.TestCase):
 
     @contextlib.contextmanager
     def takes_at_most(self, seconds: float) -> Iterator[None]:
-        """What is done takes at most this many seconds of the processor, in this process and in those that it ended: what else the
+        """What is done takes at most this many seconds of a fast processor, in this process and in those that it ended: what else the
         machine does meanwhile does not count."""
         start = sum(os.times()[:4])
         yield
-        self.assertLess(sum(os.times()[:4]) - start, seconds)
+        took = sum(os.times()[:4]) - start
+        self.assertTrue(is_within(took, seconds), f"{took:.1f} s")
 
     def ended_at_once(self, begun: "subprocess.Popen[bytes]", number: int) -> Ran:
         """Returns what a process printed that ends at once, by a signal."""
@@ -221,7 +223,8 @@ class ToolTest(unittest.TestCase):
         begun.send_signal(number)
         output, errors = begun.communicate(timeout=PATIENCE)
         after = resource.getrusage(resource.RUSAGE_CHILDREN)
-        self.assertLess(after.ru_utime + after.ru_stime - before.ru_utime - before.ru_stime - spent, AT_ONCE)
+        took = after.ru_utime + after.ru_stime - before.ru_utime - before.ru_stime - spent
+        self.assertTrue(is_within(took, AT_ONCE), f"{took:.1f} s")
         return Ran(output or b"", (errors or b"").decode(), begun.returncode)
 
     def assert_raises(self, call: Callable[[], object], told: str) -> None:

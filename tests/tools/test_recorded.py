@@ -14,6 +14,7 @@ from galluspa.engine.tracing import Run, Step, differing
 from galluspa.formats import recording
 from galluspa.formats.recording import WORDS, Event, page_of
 from galluspa.process.timelimit import Limit, TimeIsUp
+from tests.support.slowness import is_within
 from tests.tools.samples import GALLUSPA, Ran, ToolTest, claim, encoded, processor_seconds, record, session, tool, until
 from tests.tools.samples import run_of
 from tests.tools.test_trace import COUNTING
@@ -152,7 +153,8 @@ class SliceTest(ToolTest):
         ends = [(count, seconds) for count, seconds in ends if count >= 1 << 31]
         slices = [(later - sooner, seconds - before) for (sooner, before), (later, seconds) in zip(ends, ends[1:])]
         self.assertLessEqual(slices[0][0], 2 * MOST_STEPS)
-        self.assertLess(sorted(seconds for _, seconds in slices)[-2], 0.25)
+        longest = sorted(seconds for _, seconds in slices)[-2]
+        self.assertTrue(is_within(longest, 0.25), f"{longest:.2f} s")
 
     def test_a_long_wait_costs_little(self) -> None:
         """A run of 2^40 instructions in which the machine waits, also after a byte that is sent and with inputs: each tool is through it."""
