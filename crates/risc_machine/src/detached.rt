@@ -40,7 +40,7 @@ impl DetachedMachine {
     /// Returns the machine, over a table of the words that its memory was made with. The pool may have more pages than when the machine
     /// was detached, or be another one.
     ///
-    /// It copies the private pages, and keeps the decoded instructions. The detached machine is consumed, even if memory runs out.
+    /// It copies no page, and keeps the decoded instructions. The detached machine is consumed, even if memory runs out.
     pub fn attach<'a>(
         self,
         alloc: Global,

@@ -1,5 +1,5 @@
 -- The page slots of a memory over a pool, and of the same memory without it.
-use Rattle.std.proofs.Common.{◌≡◌, ℕ, suc, ◌+◌, ◌*◌, ◌<◌, List, [], ◌∷◌, ◌++◌, length, get_or, map, refl, ap, sym, subst, ◌∙◌, arith, take, drop}
+use Rattle.std.proofs.Common.{◌≡◌, ℕ, suc, ◌+◌, ◌*◌, ◌<◌, List, [], ◌∷◌, ◌++◌, length, length-append, get_or, map, refl, ap, sym, subst, ◌∙◌, arith, take, drop}
 use Rattle.std.specs.List.{flat_map}
 use borrow.Author.Count.{below_more}
 use Rattle.std.proofs.lemmas.List.{get_or_append_left}
@@ -11,16 +11,25 @@ use Rattle.risc_pages.specs.Pages.{ArePages, page_at, page_of}
 use Rattle.risc_pages.specs.Tables.{IsNamed, table_words}
 use Rattle.risc_pages.specs.declared.detached.DetachedSlot.{DetachedSlot}
 use Rattle.risc_pages.specs.declared.detached.DetachedSlot.TheVariants.{Shared, Owned}
+use Rattle.risc_pages.specs.declared.slot.Began.{Began}
 use Rattle.risc_pages.specs.declared.slot.Slot.{Slot}
 use Rattle.risc_pages.specs.inner.Detached.{IsSameSlot, detached_base, detached_content, detached_contents, is_detached_owned}
 use Rattle.risc_pages.specs.inner.Slots.{base_of, content, contents_of, is_owned}
 
--- one element more in a list whose elements are each related to that of another list
-pub related_more : {X Y : Type 0} (R : X → Y → Type 0) (xs : List X) (ys : List Y) (x : X) → ((k : ℕ) (d : X) (e : Y) → k < length xs → R (get_or xs k d) (get_or ys k e)) → ((e : Y) → R x (get_or ys (length xs) e)) → (k : ℕ) (d : X) (e : Y) → k < length xs + 1 → R (get_or (xs ++ x ∷ []) k d) (get_or ys k e)
-related_more {X} R xs ys x before here k d e h =
-    below_more (λ (j : ℕ). R (get_or (xs ++ x ∷ []) j d) (get_or ys j e)) (length xs)
-    (λ j l. subst (λ (z : X). R z (get_or ys j e)) (sym (get_or_append_left xs (x ∷ []) d j l)) (before j d e l))
-    (subst (λ (z : X). R z (get_or ys (length xs) e)) (sym (get_or-append_seam xs x [] d)) (here e)) k h
+-- what holds of each element of a list by its index, with one element more
+pub each_more : {X : Type 0} (P : ℕ → X → Type 0) (xs : List X) (x : X) → ((k : ℕ) (d : X) → k < length xs → P k (get_or xs k d)) → P (length xs) x → (k : ℕ) (d : X) → k < length xs + 1 → P k (get_or (xs ++ x ∷ []) k d)
+each_more P xs x before here k d h =
+    below_more (λ (j : ℕ). P j (get_or (xs ++ x ∷ []) j d)) (length xs)
+    (λ j l. subst (P j) (sym (get_or_append_left xs (x ∷ []) d j l)) (before j d l))
+    (subst (P (length xs)) (sym (get_or-append_seam xs x [] d)) here) k h
+
+pub nothing_left : {X : Type 0} (l : List X) → length l ≡ 0 → l ≡ []
+nothing_left [] h = refl
+nothing_left (x ∷ xs) h = absurd (omega arith)
+
+-- the element at which a list is split
+pub at_split : {X : Type 0} (all before rest : List X) (x e : X) → before ++ x ∷ rest ≡ all → get_or all (length before) e ≡ x
+at_split {X} all before rest x e split = ap (λ (l : List X). get_or l (length before) e) (sym split) ∙ get_or-append_seam before x rest e
 
 -- lists of the same length whose elements have the same image have the same images
 pub map-same : {X Y Z : Type 0} (f : X → Z) (g : Y → Z) (xs : List X) (ys : List Y) → length xs ≡ length ys → ((k : ℕ) (d : X) (e : Y) → k < length xs → f (get_or xs k d) ≡ g (get_or ys k e)) → map f xs ≡ map g ys
@@ -32,17 +41,37 @@ map-same {Z = Z} f g (x ∷ xs) (y ∷ ys) long same =
     let rest : map f xs ≡ map g ys = map-same f g xs ys (omega arith) (λ k d e h. same (suc k) d e (omega arith)) in
     ap (λ (z : Z). z ∷ map f xs) first ∙ ap (λ (l : List Z). g y ∷ l) rest
 
--- slots that are the same one by one are those of the same memory
-pub contents-same : (slots : List Slot) (detached : List DetachedSlot) → length slots ≡ length detached → ((k : ℕ) (d : Slot) (e : DetachedSlot) → k < length slots → IsSameSlot (get_or slots k d) (get_or detached k e)) → contents_of slots ≡ detached_contents detached
-contents-same slots detached long same = λ i. record {
-  words = flat_map-same content detached_content slots detached long (λ k d e h. (same k d e h).content_is) i;
-  owned = map-same is_owned is_detached_owned slots detached long (λ k d e h. (same k d e h).owned_is) i;
-  base = flat_map-same base_of detached_base slots detached long (λ k d e h. (same k d e h).base_is) i;
+-- there are fewer elements before one than in all
+pub before_split : {X : Type 0} (all before rest : List X) (x : X) → before ++ x ∷ rest ≡ all → length before < length all
+before_split all before rest x split =
+    let long = length-append before (x ∷ rest) in
+    let same = ap length split in
+    omega arith
+
+-- slots that are the same one by one, with the pages that they began with
+abbrev pub AreSame : List Slot → List Began → List DetachedSlot → Type 0
+AreSame slots bases detached = (k : ℕ) (d : Slot) (b : Began) (e : DetachedSlot) → k < length slots → IsSameSlot (get_or slots k d) (base_of (get_or bases k b)) (get_or detached k e)
+
+bases-same : (slots : List Slot) (bases : List Began) (detached : List DetachedSlot) → length slots ≡ length detached → length bases ≡ length detached → AreSame slots bases detached → flat_map base_of bases ≡ flat_map detached_base detached
+bases-same [] bases detached long many same = flat_map-same base_of detached_base bases detached many (λ k b e h. absurd (omega arith))
+bases-same (s ∷ slots) bases detached long many same = flat_map-same base_of detached_base bases detached many (λ k b e h. (same k s b e (omega arith)).base_is)
+
+-- they are those of the same memory
+pub contents-same : (slots : List Slot) (bases : List Began) (detached : List DetachedSlot) → length slots ≡ length detached → length bases ≡ length detached → AreSame slots bases detached → contents_of slots bases ≡ detached_contents detached
+contents-same slots [] detached long many same = λ i. record {
+  words = flat_map-same content detached_content slots detached long (λ k d e h. absurd (omega arith)) i;
+  owned = map-same is_owned is_detached_owned slots detached long (λ k d e h. absurd (omega arith)) i;
+  base = bases-same slots [] detached long many same i;
+}
+contents-same slots (b ∷ bases) detached long many same = λ i. record {
+  words = flat_map-same content detached_content slots detached long (λ k d e h. (same k d b e h).content_is) i;
+  owned = map-same is_owned is_detached_owned slots detached long (λ k d e h. (same k d b e h).owned_is) i;
+  base = bases-same slots (b ∷ bases) detached long many same i;
 }
 
 pub length-detached_base : (slot : DetachedSlot) → length (detached_base slot) ≡ 256
 length-detached_base (Shared page) = page.value.whole
-length-detached_base (Owned own) = own.value.base.value.whole
+length-detached_base (Owned own base) = base.value.whole
 
 page_at-detached_base : (slots : List DetachedSlot) (words : List ℕ) (p : ℕ) (d : DetachedSlot) → flat_map detached_base slots ≡ words → p < length slots → page_at words p ≡ detached_base (get_or slots p d)
 unfolding page_at

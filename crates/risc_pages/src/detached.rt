@@ -1,56 +1,41 @@
 //! A memory without its pool: the private pages alone, which an object can own beside the pool. Memories are in `memory`.
 
-ghost use Rattle.std.specs.Prelude.{◌≡◌, ◌≤◌, ℕ, IfOk, All, false, length};
+ghost use Rattle.std.specs.Prelude.{◌≡◌, ◌≤◌, IfOk, false, length};
 ghost use Rattle.risc_pages.specs.Pages.{page_of};
 ghost use Rattle.risc_pages.specs.Tables.{table_words, IsNamed};
+ghost use Rattle.risc_pages.specs.inner.Slots.{content, is_owned};
 ghost use Rattle.risc_pages.specs.inner.Detached.{detached_base, IsSameSlot};
 
 use crate::memory::Memory;
 use crate::page::Page;
 use crate::pool::Pool;
 use crate::sizes::PAGE_SLOTS;
-use crate::slot::{Copied, Slot};
+use crate::slot::{Began, Slot};
 use crate::table::Table;
 use std::alloc::{AllocError, Global};
 use std::marker::Model;
 use std::snapshot::Snapshot;
-
-/// The private page of a slot, and, in contracts alone, the page that it was copied from.
-#[derive(Drop)]
-pub(crate) struct DetachedPage {
-    pub(crate) page: Page,
-    pub(crate) base: Snapshot<Page>,
-}
 
 /// A page slot without the pool.
 #[derive(Drop)]
 pub(crate) enum DetachedSlot {
     /// A page of the pool, which only contracts see.
     Shared(Snapshot<Page>),
-    /// A private page of this slot.
-    Owned(Box<DetachedPage>),
+    /// A private page of this slot, and, in contracts alone, the page that the slot began with.
+    Owned(Box<Page>, Snapshot<Page>),
 }
 
 impl DetachedSlot {
-    /// Returns the slot that goes on from this one, over the pool's page that it began with. A private page is copied once.
-    fn attach<'a>(
-        &self,
-        alloc: Global,
-        pool: &'a Pool,
-        page_id: u32,
-    ) -> Result<Slot<'a>, AllocError>
+    /// Returns the slot that goes on from this one, over the pool's page that it began with.
+    fn attach(self, pool: &Pool, page_id: u32) -> Slot<'_>
         requires named { page_id ≤ length pool.now }
-        requires base { detached_base self.now ≡ page_of pool.now page_id }
-        ensures { IfOk result (λ slot. IsSameSlot slot self.now) }
+        requires base { detached_base self ≡ page_of pool.now page_id }
+        ensures same { IsSameSlot result (page_of pool.now page_id) self }
+        ensures based { is_owned result ≡ false → content result ≡ page_of pool.now page_id }
     {
         match self {
-            DetachedSlot::Shared(_) => Ok(pool.slot(page_id)),
-            DetachedSlot::Owned(own) => {
-                let base = pool.page(page_id);
-                let page = own.page;
-                let copied = Box::new(alloc, Copied { page, base })?;
-                Ok(Slot::Owned(copied))
-            }
+            DetachedSlot::Shared(_) => pool.slot(page_id),
+            DetachedSlot::Owned(own, _) => Slot::Owned(own),
         }
     }
 }
@@ -81,7 +66,7 @@ impl DetachedMemory {
     /// Returns the memory, over a table of the words that it began with. The pool may have more pages than when the memory was
     /// detached, or be another one.
     ///
-    /// It copies the private pages, and no others. The detached memory is consumed, even if memory runs out.
+    /// It copies no page. The detached memory is consumed, even if memory runs out.
     pub fn attach<'a>(
         self,
         alloc: Global,
@@ -92,14 +77,19 @@ impl DetachedMemory {
         requires base { table_words pool.now table.now.numbers ≡ self.base }
         ensures { IfOk result (λ memory. memory ≡ self) }
     {
-        // The contract of `len` states that each page of the pool has 256 words.
-        let _pages = pool.len();
         let mut slots = Vec::with_capacity(alloc, PAGE_SLOTS as usize)?;
+        let mut bases = Vec::with_capacity(alloc, PAGE_SLOTS as usize)?;
         let numbers = table.numbers();
-        for slot in 0..PAGE_SLOTS {
-            let attached = self.slots[slot as usize].attach(alloc, pool, numbers[slot as usize])?;
-            slots.push_reserved(attached);
+        for slot in self.slots {
+            let page_id = numbers[slots.len()];
+            let page = pool.page(page_id);
+            slots.push_reserved(slot.attach(pool, page_id));
+            bases.push_reserved(Began { page });
         }
-        Ok(Memory { slots, alloc })
+        Ok(Memory {
+            slots,
+            bases,
+            alloc,
+        })
     }
 }

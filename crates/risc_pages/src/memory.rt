@@ -10,7 +10,7 @@ use crate::detached::DetachedMemory;
 use crate::page::Page;
 use crate::pool::Pool;
 use crate::sizes::{PAGE_SLOTS, PAGE_WORDS};
-use crate::slot::{Slot, copy_on_write};
+use crate::slot::{Began, Slot, copy_on_write};
 use crate::table::Table;
 use std::alloc::{AllocError, Global};
 use std::marker::Model;
@@ -29,6 +29,8 @@ pub struct Delta {
 #[derive(Drop)]
 pub struct Memory<'a> {
     pub(crate) slots: Vec<Slot<'a>>,
+    /// The pages that the slots began with.
+    pub(crate) bases: Vec<Began<'a>>,
     pub(crate) alloc: Global,
 }
 
@@ -37,13 +39,11 @@ impl<'a> Model for Memory<'a> {
 
     ghost Value = { Contents };
 
-    ghost use Rattle.std.specs.Prelude.{length, ◌≡◌};
-    ghost use Rattle.risc_pages.specs.declared.sizes.TheConstants.{PAGE_SLOTS};
-    ghost use Rattle.risc_pages.specs.inner.Slots.{contents_of};
+    ghost use Rattle.risc_pages.specs.inner.Slots.{contents_of, AreBased};
 
-    ghost view = { λ m. contents_of m.slots.items };
+    ghost view = { λ m. contents_of m.slots.items m.bases.items };
 
-    ghost invariant = { λ m. length m.slots.items ≡ PAGE_SLOTS };
+    ghost invariant = { λ m. AreBased m.slots.items m.bases.items };
 }
 
 impl<'a> Memory<'a> {
@@ -57,11 +57,18 @@ impl<'a> Memory<'a> {
         ensures memory { IfOk result IsMemory }
     {
         let mut slots = Vec::with_capacity(alloc, PAGE_SLOTS as usize)?;
+        let mut bases = Vec::with_capacity(alloc, PAGE_SLOTS as usize)?;
         let numbers = table.numbers();
         for number in numbers {
             slots.push_reserved(pool.slot(*number));
+            let page = pool.page(*number);
+            bases.push_reserved(Began { page });
         }
-        Ok(Memory { slots, alloc })
+        Ok(Memory {
+            slots,
+            bases,
+            alloc,
+        })
     }
 
     /// Returns the word with this number.
@@ -94,7 +101,7 @@ impl<'a> Memory<'a> {
         let index = (number % PAGE_WORDS) as usize;
         match &mut self.slots[slot] {
             Slot::Owned(own) => {
-                own.page.words[index] = value;
+                own.words[index] = value;
                 Ok(())
             }
             Slot::Blank(blank) => {
@@ -124,7 +131,7 @@ impl<'a> Memory<'a> {
         let index = (number % PAGE_WORDS) as usize;
         match &mut self.slots[slot] {
             Slot::Owned(own) => {
-                own.page.words[index] = word;
+                own.words[index] = word;
                 true
             }
             Slot::Blank(_) => false,
@@ -195,7 +202,8 @@ impl<'a> Memory<'a> {
     {
         let mut changed = Vec::new(self.alloc);
         for slot in 0..PAGE_SLOTS {
-            if let Some(page) = self.slots[slot as usize].change() {
+            let base = self.bases[slot as usize].page;
+            if let Some(page) = self.slots[slot as usize].change(base) {
                 changed.push((slot, *page))?;
             }
         }
@@ -212,17 +220,21 @@ impl<'a> Memory<'a> {
         })
     }
 
-    /// Returns the memory without its pool. It copies the private pages, and no others. Consumes the memory, also if there is no
-    /// memory for the copies.
+    /// Returns the memory without its pool. It copies no page. Consumes the memory, also if memory runs out.
     pub fn detach(self) -> Result<DetachedMemory, AllocError>
         ensures { IfOk result (λ detached. detached ≡ self.entry) }
     {
-        let mut slots = Vec::with_capacity(self.alloc, PAGE_SLOTS as usize)?;
-        for slot in 0..PAGE_SLOTS {
-            let detached = self.slots[slot as usize].detach(self.alloc)?;
-            slots.push_reserved(detached);
+        let Memory {
+            slots,
+            bases,
+            alloc,
+        } = self;
+        let mut detached = Vec::with_capacity(alloc, PAGE_SLOTS as usize)?;
+        for slot in slots {
+            let base = bases[detached.len()].page;
+            detached.push_reserved(slot.detach(base));
         }
-        Ok(DetachedMemory { slots })
+        Ok(DetachedMemory { slots: detached })
     }
 
     /// Returns the page slots whose content differs from the table that the memory was made from, with their pages. Consumes the

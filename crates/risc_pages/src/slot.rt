@@ -1,13 +1,13 @@
 //! A page slot of a memory: a shared page of the pool, or a private page. No contract that callers of this crate see mentions it.
 
 ghost use Rattle.std.specs.Prelude.{◌≡◌, ◌≢◌, ◌↔◌, ◌<◌, ◌≤◌, ℕ, length, slice_set};
-ghost use Rattle.std.specs.Prelude.{IsTrue, IfNone, IfOk, IfSome, OnOk, OnErr, true, false};
+ghost use Rattle.std.specs.Prelude.{IsTrue, IfNone, IfSome, OnOk, OnErr, true, false};
 ghost use Rattle.risc_pages.specs.declared.sizes.TheConstants.{PAGE_WORDS};
 ghost use Rattle.risc_pages.specs.Pages.{page_of, ArePages};
-ghost use Rattle.risc_pages.specs.inner.Slots.{content, base_of, TakesCopy};
+ghost use Rattle.risc_pages.specs.inner.Slots.{content, is_owned, TakesCopy};
 ghost use Rattle.risc_pages.specs.inner.Detached.{IsSameSlot};
 
-use crate::detached::{DetachedPage, DetachedSlot};
+use crate::detached::DetachedSlot;
 use crate::page::{Blank, Page};
 use crate::pool::Pool;
 use std::alloc::{AllocError, Global};
@@ -21,14 +21,13 @@ pub(crate) enum Slot<'a> {
     /// Another page of the pool, not yet written here.
     Shared(&'a Page),
     /// A private page of this slot.
-    Owned(Box<Copied<'a>>),
+    Owned(Box<Page>),
 }
 
-/// A private page, and the page that it was copied from.
+/// The page that a slot began with.
 #[derive(Drop)]
-pub(crate) struct Copied<'a> {
-    pub(crate) page: Page,
-    pub(crate) base: &'a Page,
+pub(crate) struct Began<'a> {
+    pub(crate) page: &'a Page,
 }
 
 impl<'a> Slot<'a> {
@@ -39,7 +38,7 @@ impl<'a> Slot<'a> {
         match self {
             Slot::Blank(blank) => &blank.page,
             Slot::Shared(page) => page,
-            Slot::Owned(own) => &own.page,
+            Slot::Owned(own) => own,
         }
     }
 
@@ -65,29 +64,26 @@ impl<'a> Slot<'a> {
     }
 
     /// Returns the page in this slot, if its words differ from those of the page that the slot began with.
-    pub(crate) fn change(&self) -> Option<&Page>
-        ensures none { IfNone result (content self.now ≡ base_of self.now) }
-        ensures some { IfSome result (λ page. (page.now.words ≡ content self.now) × (content self.now ≢ base_of self.now)) }
+    pub(crate) fn change(&self, base: &Page) -> Option<&Page>
+        requires { is_owned self.now ≡ false → content self.now ≡ base.now.words }
+        ensures none { IfNone result (content self.now ≡ base.now.words) }
+        ensures some { IfSome result (λ page. (page.now.words ≡ content self.now) × (content self.now ≢ base.now.words)) }
     {
         match self {
-            Slot::Owned(own) if own.page.words != own.base.words => Some(&own.page),
+            Slot::Owned(own) if own.words != base.words => Some(own),
             _ => None,
         }
     }
 
-    /// Returns the slot without the pool. A private page is copied.
-    pub(crate) fn detach(&self, alloc: Global) -> Result<DetachedSlot, AllocError>
-        ensures { IfOk result (IsSameSlot self.now) }
+    /// Returns the slot without the pool, which began with this page.
+    pub(crate) fn detach(self, base: &Page) -> DetachedSlot
+        requires { is_owned self ≡ false → content self ≡ base.now.words }
+        ensures { IsSameSlot self.entry base.now.words result }
     {
         match self {
-            Slot::Blank(blank) => Ok(DetachedSlot::Shared(Snapshot::of(&blank.page))),
-            Slot::Shared(page) => Ok(DetachedSlot::Shared(Snapshot::of(*page))),
-            Slot::Owned(own) => {
-                let base = Snapshot::of(own.base);
-                let page = own.page;
-                let detached = Box::new(alloc, DetachedPage { page, base })?;
-                Ok(DetachedSlot::Owned(detached))
-            }
+            Slot::Blank(blank) => DetachedSlot::Shared(Snapshot::of(&blank.page)),
+            Slot::Shared(page) => DetachedSlot::Shared(Snapshot::of(page)),
+            Slot::Owned(own) => DetachedSlot::Owned(own, Snapshot::of(base)),
         }
     }
 }
@@ -99,26 +95,26 @@ pub(crate) fn copy_on_write<'a>(
     alloc: Global,
     slots: &mut Vec<Slot<'a>>,
     slot: usize,
-    base: &'a Page,
+    base: &Page,
     index: usize,
     word: u32,
 ) -> Result<(), AllocError>
     requires slot_inside { slot < length slots.old.items }
     requires index_inside { index < PAGE_WORDS }
-    ensures ok { OnOk result (TakesCopy slots.old.items slots.new.items slot base.now.words (slice_set base.now.words index word)) }
+    ensures ok { OnOk result (TakesCopy slots.old.items slots.new.items slot (slice_set base.now.words index word)) }
     ensures err { OnErr result (slots.new ≡ slots.old) }
 {
     let mut page = *base;
     page.words[index] = word;
-    let own = Box::new(alloc, Copied { page, base })?;
+    let own = Box::new(alloc, page)?;
     put(slots, slot, own);
     Ok(())
 }
 
 /// Puts a private page into a slot.
-fn put<'a>(slots: &mut Vec<Slot<'a>>, slot: usize, own: Box<Copied<'a>>)
+fn put<'a>(slots: &mut Vec<Slot<'a>>, slot: usize, own: Box<Page>)
     requires { slot < length slots.old.items }
-    ensures { slots.new.items ≡ slice_set slots.old.items slot (Slot.Owned own.entry) }
+    ensures { slots.new.items ≡ slice_set slots.old.items slot (Slot.Owned own) }
 {
     slots[slot] = Slot::Owned(own);
 }

@@ -4,23 +4,23 @@ use Rattle.std.specs.List.{flat_map}
 use Rattle.risc_pages.specs.declared.detached.DetachedSlot.{DetachedSlot}
 use Rattle.risc_pages.specs.declared.detached.DetachedSlot.TheVariants.{Shared, Owned}
 use Rattle.risc_pages.specs.declared.slot.Slot.{Slot}
-use Rattle.risc_pages.specs.inner.Slots.{content, base_of, is_owned}
+use Rattle.risc_pages.specs.inner.Slots.{content, is_owned}
 use Rattle.risc_pages.specs.Contents.{Contents}
 
 -- the words of the page in a slot
 abbrev pub detached_content : DetachedSlot → List ℕ
 detached_content (Shared page) = page.value.words
-detached_content (Owned own) = own.value.page.words
+detached_content (Owned own base) = own.value.words
 
 -- the words of the page that the slot began with
 abbrev pub detached_base : DetachedSlot → List ℕ
 detached_base (Shared page) = page.value.words
-detached_base (Owned own) = own.value.base.value.words
+detached_base (Owned own base) = base.value.words
 
 -- whether a slot has a private page
 abbrev pub is_detached_owned : DetachedSlot → Bool
 is_detached_owned (Shared page) = false
-is_detached_owned (Owned own) = true
+is_detached_owned (Owned own base) = true
 
 -- the content of these slots
 abbrev pub detached_contents : List DetachedSlot → Contents
@@ -30,8 +30,9 @@ detached_contents slots = record {
   base = flat_map detached_base slots;
 }
 
--- a slot over a pool and one without have the same page, began with the same one, and both have a private page or neither
-pub record IsSameSlot (slot : Slot) (detached : DetachedSlot) : Type 0 where
+-- a slot over a pool, which began with a page of these words, and one without have the same page, began with the same one, and both have a
+-- private page or neither
+pub record IsSameSlot (slot : Slot) (base : List ℕ) (detached : DetachedSlot) : Type 0 where
   pub content_is : content slot ≡ detached_content detached
-  pub base_is : base_of slot ≡ detached_base detached
+  pub base_is : base ≡ detached_base detached
   pub owned_is : is_owned slot ≡ is_detached_owned detached

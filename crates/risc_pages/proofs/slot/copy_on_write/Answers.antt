@@ -1,6 +1,6 @@
 use Rattle.std.proofs.Common.{◌<◌, ◌^◌, length-set, refl, ap, ◌∙◌}
 use Rattle.std.proofs.lemmas.List.Elements.{All-set}
-use Rattle.risc_pages.specs.declared.slot.Copied.{Copied}
+use Rattle.risc_pages.specs.declared.page.Page.{Page}
 use Rattle.risc_pages.specs.declared.slot.Slot.TheVariants.{Owned}
 use Rattle.risc_pages.proofs.slot.copy_on_write.Goals as goal
 
@@ -9,8 +9,7 @@ returns-clause-ok c = record {
   own = Owned c.in_ok-own.own;
   items = c.put.ensures;
   owned = refl;
-  content_is = ap (λ (z : Copied). z.page.words) c.in_ok-own.ensures.ok;
-  base_is = ap (λ (z : Copied). z.base.now.words) c.in_ok-own.ensures.ok;
+  content_is = ap (λ (z : Page). z.words) c.in_ok-own.ensures.ok;
 }
 
 pub invariant_of-page : goal.invariant_of-page

@@ -6,6 +6,7 @@ use Rattle.risc_pages.proofs.SlotLemmas.{page_at-base_of, page_at-content}
 use Rattle.risc_pages.specs.Contents.{Contents}
 use Rattle.risc_pages.specs.declared.page.Page.{Page}
 use Rattle.risc_pages.specs.Delta.{changed_below}
+use Rattle.risc_pages.specs.declared.slot.Began.{Began}
 use Rattle.risc_pages.specs.declared.slot.Slot.{Slot}
 use Rattle.risc_pages.specs.Pages.{page_at}
 use Rattle.risc_pages.specs.inner.Slots.{base_of, content}
@@ -24,13 +25,15 @@ pub loop-slot-preserved : goal.loop-slot-preserved
 loop-slot-preserved c =
     let slots : List Slot = c.self.inside.slots.items in
     let words : List ℕ = flat_map content slots in
-    let base : List ℕ = flat_map base_of slots in
+    let bases : List Began = c.self.inside.bases.items in
+    let base : List ℕ = flat_map base_of bases in
     let P : ℕ × Page → Type 0 = λ z. z.1.words ≡ page_at words z.0 in
-    let n : length slots ≡ 1024 = c.self.invariant in
-    let own : page_at words c.loop-slot.slot ≡ content c.index.result.now =
-    page_at-content slots words c.loop-slot.slot c.index.result.now refl (omega arith) ∙ ap (λ (p : Slot). content p) (sym c.index.ensures) in
+    let n : length slots ≡ 1024 = c.self.invariant.count in
+    let m : length bases ≡ 1024 = c.self.invariant.bases_count in
+    let own : page_at words c.loop-slot.slot ≡ content c.index-in-loop-slot.result.now =
+    page_at-content slots words c.loop-slot.slot c.index-in-loop-slot.result.now refl (omega arith) ∙ ap (λ (p : Slot). content p) (sym c.index-in-loop-slot.ensures) in
     let first : page_at base c.loop-slot.slot ≡ base_of c.index.result.now =
-    page_at-base_of slots base c.loop-slot.slot c.index.result.now refl (omega arith) ∙ ap (λ (p : Slot). base_of p) (sym c.index.ensures) in
+    page_at-base_of bases base c.loop-slot.slot c.index.result.now refl (omega arith) ∙ ap (λ (p : Began). base_of p) (sym c.index.ensures) in
     elim c.match-change.branch [
       | in-Some+in_ok-push w ↦
           let items : c.match-change.changed.items ≡ c.loop-slot.changed.items ++ (c.loop-slot.slot, w.in-Some.page.now) ∷ [] =
@@ -51,11 +54,11 @@ loop-slot-preserved c =
 
 pub returns-clause-differences : goal.returns-clause-differences
 returns-clause-differences c =
-    let base : flat_map base_of c.self.inside.slots.items ≡ c.args.self.now.base = ap (λ (m : Contents). m.base) c.self.view_is in
+    let base : flat_map base_of c.self.inside.bases.items ≡ c.args.self.now.base = ap (λ (m : Contents). m.base) c.self.view_is in
     let words : flat_map content c.self.inside.slots.items ≡ c.args.self.now.words = ap (λ (m : Contents). m.words) c.self.view_is in
     let all : c.loop-slot.slot ≡ 1024 = omega arith in
     AreDifferences-changed_below _ _ _
     (c.loop-slot.invariant.slots
-    ∙ ap (λ (n : ℕ). changed_below n (flat_map base_of c.self.inside.slots.items) (flat_map content c.self.inside.slots.items)) all
+    ∙ ap (λ (n : ℕ). changed_below n (flat_map base_of c.self.inside.bases.items) (flat_map content c.self.inside.slots.items)) all
     ∙ ap (λ (b : List ℕ). changed_below 1024 b (flat_map content c.self.inside.slots.items)) base
     ∙ ap (λ (w : List ℕ). changed_below 1024 c.args.self.now.base w) words)

@@ -13,7 +13,7 @@ use Rattle.risc_pages.proofs.memory.Memory.least_other.Goals as goal
 pub returns-clause-none : goal.returns-clause-none
 returns-clause-none c _ =
     let t : length c.args.table.now.numbers ≡ 1024 = c.args.table.now.count in
-    let n : length c.self.inside.slots.items ≡ 1024 = c.self.invariant in
+    let n : length c.self.inside.slots.items ≡ 1024 = c.self.invariant.count in
     let e = c.numbers-numbers.ensures in
     sym (ap (λ (m : Contents). m.words) c.self.view_is)
     ∙ flat_map-same content (page_of c.args.pool.now) c.self.inside.slots.items c.args.table.now.numbers (omega arith)
@@ -22,7 +22,7 @@ returns-clause-none c _ =
 pub returns-then-not-is_same-clause-some : goal.returns-then-not-is_same-clause-some
 returns-then-not-is_same-clause-some c _ =
     let t : length c.args.table.now.numbers ≡ 1024 = c.args.table.now.count in
-    let n : length c.self.inside.slots.items ≡ 1024 = c.self.invariant in
+    let n : length c.self.inside.slots.items ≡ 1024 = c.self.invariant.count in
     let e = c.numbers-numbers.ensures in
     let mine = λ (k : ℕ) (h : k < 1024). page_at-content c.self.inside.slots.items c.args.self.now.words k c.index.result.now (ap (λ (m : Contents). m.words) c.self.view_is) (omega arith) in
     let theirs = λ (k : ℕ) (h : k < 1024). page_at-table_words c.args.pool.now c.args.table.now.numbers k 0 c.is_same.ensures.pages c.requires (omega arith) in
