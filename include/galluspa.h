@@ -440,7 +440,7 @@ uint8_t galluspa_past_near(galluspa_past *past, uint64_t at, uint64_t from, gall
 
 /* Adds inputs to a past, after those that it has: for a live machine, whose inputs come while it runs. None is below the end of the
  * past or the count of an input that it has; else they are as for galluspa_advance. Returns GALLUSPA_DONE; or GALLUSPA_OUT_OF_RANGE,
- * GALLUSPA_CLOSED or GALLUSPA_OUT_OF_MEMORY (never for inputs that galluspa_advance refuses), and then none is added. */
+ * GALLUSPA_CLOSED or GALLUSPA_OUT_OF_MEMORY (only for inputs that come next), and then none is added. */
 uint8_t galluspa_past_input(galluspa_past *past, const galluspa_input *inputs, size_t inputs_len);
 
 /* Runs on from the end of the past to the count to, which becomes its end, with the inputs of these counts. The bytes that the machine

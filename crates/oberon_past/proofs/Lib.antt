@@ -5,6 +5,7 @@ mod Pages
 mod Inputs
 mod Cutting
 mod Following
+mod NextInputs
 mod Staying
 mod Adding
 mod Searches
