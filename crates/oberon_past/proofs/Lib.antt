@@ -12,5 +12,5 @@ mod Searches
 mod Written
 mod Traces
 mod Counting
-mod CallsFollowed
+pub mod CallsFollowed
 mod Drafts
