@@ -208,6 +208,12 @@ def test_search(desk: Desk) -> None:
     page.wait(f"galluspa.isPast() && {EXACT}")
     last = page.answer("galluspa.cursor()")
     expect("how many bytes were sent before the last one", page.answer("galluspa.moment().sent + 1"), len(page.answer(SENT)))
+    # Esc closes the menu, and only then leaves what was found.
+    page.answer("el('more').open = true; el('search-kind').focus()")
+    for is_past in (True, False):
+        page.press("Escape")
+        expect("what Esc leaves", page.answer("[el('more').open, galluspa.isPast()]"), [False, is_past])
+    desk.look_at(last)
     desk.click("find-next")
     page.wait(f"{shown('found')}.endsWith(': none after it, up to now.')")
     expect("where it stays", page.answer("galluspa.cursor()"), last)
