@@ -447,7 +447,8 @@ def test_branch(desk: Desk) -> None:
     other = desk.save("draw", "the branch that was returned to")
     keys = [[event.value for event in galluspa.formats.recording.read(text).events if event.kind == 4] for text in (own, other)]
     expect("the keys of both branches", keys, [[ord("a"), ord("c")], [ord("a"), ord("b")]])
-    expect("the branches that are shown", page.answer("branchesShown().length"), 1)
+    said = page.answer("el('branches').textContent")
+    expect("the branches that are shown", re.sub(r"[\d.]+ s", "S", said), "Other branches: branch 2 from S to S.")
     for text in (own, other):
         expect("the program's line", program("check", text)[0].split()[0], "accepted")
     # Read anew, a branch has to be taken first, which a second press would find taken.
