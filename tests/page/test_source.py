@@ -164,6 +164,9 @@ def compare_runs(desk: Desk) -> tuple[int, list[str], int, int]:
     page.answer("el('source-parts').textContent = ''")
     page.answer("el('source-again').click(); el('source-again').click()")
     page.wait(f"{PARTS}.startsWith('First difference at line ')")
+    # Nor does the second press of a slow double click.
+    for kind, pressed in (("mousePressed", 1), ("mouseReleased", 0)):
+        page.point_with(kind, *desk.middle_of("el('source-again')"), pressed, 0, 2)
     expect("what the page says besides", page.answer(NOTICE), "")
     page.wait("galluspa.frame().on && !galluspa.frame().isReplay")
     desk.pause()

@@ -374,7 +374,7 @@ export const isSourceName = (name) => /\.(?:asm|inc)$/i.test(name);
 export function listenToSource() {
   ownEditor({ changed, beside, pressed: pressLine });
   on("source-run", "click", runSource);
-  on("source-again", "click", runAgain);
+  on("source-again", "click", ({ detail }) => (detail > 1 ? undefined : runAgain()));
   on("source-save", "click", saveSource);
   on("source-part", "change", ({ target }) => showPart(target.value));
   on("write", "click", writeProgram);
