@@ -480,6 +480,20 @@ def test_keep(desk: Desk) -> None:
     page.wait("galluspa.source().isRunning && galluspa.file() && galluspa.names().size")
 
 
+def test_write_beside_storage(desk: Desk) -> None:
+    """*Write* has a field at once, though the browser's storage never answers, and what is typed stays."""
+    page = desk.page
+    page.answer("IDBFactory.prototype.open = () => ({}); indexedDB.deleteDatabase('galluspa'); 0")
+    desk.press("write")
+    desk.type_line("        MOV R0, 5")
+    desk.expect_notice("the storage", ".*the browser's storage does not answer")
+    expect(
+        "what was typed",
+        page.answer("sourceField.lines"),
+        ["; A program of your own. Ctrl+Enter runs it.", "", "        MOV R0, 5", "        "],
+    )
+
+
 def test_write_at_once(desk: Desk) -> None:
     """What is typed into the tab before any source was opened is assembled and runs."""
     desk.press("tab-source")

@@ -84,9 +84,11 @@ function showPart(file) {
 export const writeProgram = () => oneAtATime("a program", writeNow);
 
 async function writeNow() {
-  if (!desk.isEdited && !(await openNewest())) {
+  if (!desk.isEdited) {
     await beginSource();
     showSource(FIRST_FILE, FIRST_SOURCE);
+    editor.goTo(...editor.end);
+    await openNewest();
   }
   showTab("source");
   if (document.activeElement !== editor.field) editor.goTo(...editor.end);
