@@ -42,7 +42,7 @@ def test_move_nothing(desk: Desk) -> None:
     """Buttons, registers and what is said of the state stay where they are while the machine runs, is paused and is looked at."""
     page = desk.page
     page.resize(1366, 625)
-    places = "['run', 'step', 'count', 'mode', 'state', 'when', 'screen', 'track', 'more'].map((it) => Math.round(el(it).getBoundingClientRect().left) + 10000 * Math.round(el(it).getBoundingClientRect().top))"
+    places = "['examples', 'save-recording', 'kept', 'about', 'run', 'step', 'count', 'mode', 'state', 'when', 'screen', 'track', 'more'].map((it) => Math.round(el(it).getBoundingClientRect().left) + 10000 * Math.round(el(it).getBoundingClientRect().top))"
     cells = "[...el('state').children].map((it) => Math.round(it.getBoundingClientRect().left))"
     desk.run_to_end("face.orsr", FACE)
     desk.settle()

@@ -194,11 +194,15 @@ def test_say_words(desk: Desk) -> None:
 
 
 def test_drop_files(desk: Desk) -> None:
-    """Of two files that are dropped together the first one is opened, which is said; an empty file has nothing to open."""
+    """Of two files that are dropped together the first one is opened, which is said; an empty file has nothing to open, and one of another program none here."""
     page, texts = desk.page, [(EXAMPLES / f"{name}.json").read_text() for name in ("keys", "lines")]
     desk.drop({f"{name}.json": text.encode() for name, text in zip(("first", "second"), texts)})
     desk.expect_notice("two files", r"Opened the first of 2 files: first\.json\.")
     expect("what is open", page.answer(shown("name")), "first")
     desk.choose("empty.bin", b"")
     desk.expect_refused("empty.bin", "an empty file has nothing to open")
+    for begin, other in ((b"PK\3\4", "a ZIP archive"), (b"\x89PNG\r\n", "a PNG picture"), (b"%PDF-1.7", "a PDF document")):
+        desk.choose("other.bin", begin + bytes(60))
+        page.wait(f"el('refused').textContent.includes('{other}')")
+        desk.expect_refused("other.bin", f"it is {other}, and not a recording, a session or an image of memory")
     expect("whether it is offered as an image", page.answer("el('image').checkVisibility()"), False)

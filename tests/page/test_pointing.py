@@ -89,3 +89,15 @@ def test_ask_why_elsewhere(desk: Desk) -> None:
     page.wait(f"{CARD}.startsWith('Who wrote mouse') && {ANSWERED}")
     expect("links of what inputs set", page.answer("[el('why-list'), lane('why').length]"), [None, 0])
     page.answer("el('card').querySelector('.close')?.click()")
+
+
+def test_click_live(desk: Desk) -> None:
+    """A short click in the timeline of a machine that runs goes to the count that is pressed."""
+    page = desk.page
+    desk.draw()
+    page.wait("galluspa.count() > 20_000_000")
+    desk.click_at(desk.column_of(5_000_000), page.answer("el('track').getBoundingClientRect().top") + 20)
+    page.wait(f"{EXACT} && !galluspa.frame().on")
+    at = page.answer("galluspa.cursor()")
+    if not 4_500_000 < at < 5_500_000:
+        fail(f"it goes to {at:,}")

@@ -247,6 +247,8 @@ def test_refuse_each(desk: Desk) -> None:
         desk.clear()
         desk.choose("odd.orsr", bytes(odd))
         desk.expect_refused("odd.orsr", program("check", bytes(odd))[0])
+    said = "A number of its header is out of range, at byte 20. face is still open."
+    expect("what is said of it", page.answer("el('refused-how').textContent"), said)
     desk.click("step")
     page.wait("galluspa.count() === 2")
     if page.answer("galluspa.frame().memory") > before + (1 << 20):

@@ -164,6 +164,9 @@ def compare_runs(desk: Desk) -> tuple[int, list[str], int, int]:
     page.answer("el('source-parts').textContent = ''")
     page.answer("el('source-again').click(); el('source-again').click()")
     page.wait(f"{PARTS}.startsWith('First difference at line ')")
+    # Nor does the second press of a slow double click.
+    for kind, pressed in (("mousePressed", 1), ("mouseReleased", 0)):
+        page.point_with(kind, *desk.middle_of("el('source-again')"), pressed, 0, 2)
     expect("what the page says besides", page.answer(NOTICE), "")
     page.wait("galluspa.frame().on && !galluspa.frame().isReplay")
     desk.pause()
@@ -475,6 +478,20 @@ def test_keep(desk: Desk) -> None:
     desk.drop(files)
     # The names are read once the program is known.
     page.wait("galluspa.source().isRunning && galluspa.file() && galluspa.names().size")
+
+
+def test_write_beside_storage(desk: Desk) -> None:
+    """*Write* has a field at once, though the browser's storage never answers, and what is typed stays."""
+    page = desk.page
+    page.answer("IDBFactory.prototype.open = () => ({}); indexedDB.deleteDatabase('galluspa'); 0")
+    desk.press("write")
+    desk.type_line("        MOV R0, 5")
+    desk.expect_notice("the storage", ".*the browser's storage does not answer")
+    expect(
+        "what was typed",
+        page.answer("sourceField.lines"),
+        ["; A program of your own. Ctrl+Enter runs it.", "", "        MOV R0, 5", "        "],
+    )
 
 
 def test_write_at_once(desk: Desk) -> None:

@@ -208,6 +208,12 @@ def test_search(desk: Desk) -> None:
     page.wait(f"galluspa.isPast() && {EXACT}")
     last = page.answer("galluspa.cursor()")
     expect("how many bytes were sent before the last one", page.answer("galluspa.moment().sent + 1"), len(page.answer(SENT)))
+    # Esc closes the menu, and only then leaves what was found.
+    page.answer("el('more').open = true; el('search-kind').focus()")
+    for is_past in (True, False):
+        page.press("Escape")
+        expect("what Esc leaves", page.answer("[el('more').open, galluspa.isPast()]"), [False, is_past])
+    desk.look_at(last)
     desk.click("find-next")
     page.wait(f"{shown('found')}.endsWith(': none after it, up to now.')")
     expect("where it stays", page.answer("galluspa.cursor()"), last)
@@ -441,7 +447,8 @@ def test_branch(desk: Desk) -> None:
     other = desk.save("draw", "the branch that was returned to")
     keys = [[event.value for event in galluspa.formats.recording.read(text).events if event.kind == 4] for text in (own, other)]
     expect("the keys of both branches", keys, [[ord("a"), ord("c")], [ord("a"), ord("b")]])
-    expect("the branches that are shown", page.answer("branchesShown().length"), 1)
+    said = page.answer("el('branches').textContent")
+    expect("the branches that are shown", re.sub(r"[\d.]+ s", "S", said), "Other branches: branch 2 from S to S.")
     for text in (own, other):
         expect("the program's line", program("check", text)[0].split()[0], "accepted")
     # Read anew, a branch has to be taken first, which a second press would find taken.

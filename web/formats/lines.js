@@ -14,6 +14,20 @@ export function readLine(line) {
   };
 }
 
+/** What the faults of a recording are, by the words of the lines that refuse it.
+ * @type {{ [word: string]: string }} */
+const FAULTS = {
+  short: "It ends too early: a part of it is missing", magic: "It does not begin with ORSR", version: "Its version is not known here", limit: "A number of its header is out of range",
+  event: "An input is out of range", checkpoint: "A checkpoint is out of range", page: "A page of a checkpoint is wrong", trailing: "There are bytes after its end",
+};
+
+/** Says in a sentence why a line refuses a recording; nothing if it does not.
+ * @param {string} line */
+export function faultText(line) {
+  const [, word = "", at] = /^refused \d (\w+) at byte (\d+)$/.exec(line) ?? [];
+  return word in FAULTS ? `${FAULTS[word]}, at byte ${at}.` : "";
+}
+
 /** @param {{ checkpoints: number, steps: number }} accepted */
 export function acceptedLine({ checkpoints, steps }) {
   return `accepted ${checkpoints} checkpoints ${steps} steps`;

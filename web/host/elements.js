@@ -52,6 +52,14 @@ export function closeMenus(element = null) {
   for (const menu of document.querySelectorAll("#galluspa .menu[open]")) if (!(element instanceof Node && menu.contains(element))) menu.removeAttribute("open");
 }
 
+/** Closes the menu that is open. The focus in it, or that of a button that is gone, goes to its name. Returns whether there is one. */
+export function closeMenu() {
+  const menu = document.querySelector("#galluspa .menu[open]"), { activeElement, body } = document;
+  menu?.removeAttribute("open");
+  if (activeElement === body || menu?.contains(activeElement)) menu?.querySelector("summary")?.focus();
+  return menu !== null;
+}
+
 /** Makes a name, whose direction changes nothing around it.
  * @param {string} name */
 export const named = (name) => made("bdi", name);

@@ -7,7 +7,7 @@ import {
   cancelSerial, compose, enterSends, letGo, listenToKeyboard, makeDevices, mouseByFields, pointed, pressed, sendFile, sendSerial, switched,
 } from "./screen/devices.js";
 import { playDemo } from "./screen/demo.js";
-import { attempt, closeMenus, el, keepInWindow, notice, on } from "../host/elements.js";
+import { attempt, closeMenu, closeMenus, el, keepInWindow, notice, on } from "../host/elements.js";
 import { heard } from "./frameupdates.js";
 import { isUnsafe, KEEP_MS, keepAll } from "../host/keeping.js";
 import "./files/board.js";
@@ -111,6 +111,7 @@ function listenToDevices() {
 
 function listenToWindow() {
   addEventListener("pointerdown", ({ target }) => closeMenus(target));
+  addEventListener("keydown", ({ key, defaultPrevented }) => key === "Escape" && !defaultPrevented && closeMenu());
   const sheets = new ResizeObserver((all) => all.forEach(({ target }) => keepInWindow(target)));
   addEventListener("toggle", ({ target }) => {
     const menu = target instanceof HTMLDetailsElement ? target : null, sheet = menu?.querySelector(".sheet");

@@ -3,7 +3,7 @@
  * has the focus, its keys go to the machine. */
 import { app } from "../host/app.js";
 import { conditionsOfBreaks, toggleBreak } from "./code/breakpoints.js";
-import { attempt, el, on } from "../host/elements.js";
+import { attempt, closeMenu, el, on } from "../host/elements.js";
 import { goToWritten } from "./going.js";
 import { backToNow, moveCursor, runAgain, runTo, takeOverHere } from "./timeline/cursormoves.js";
 import { watchSelected } from "./code/memory.js";
@@ -100,10 +100,11 @@ function openMore(field) {
   el(field).focus();
 }
 
-/** Ends the search that is under way, or else goes to now. */
+/** Ends the search that is under way, or else closes the menu that is open, or else goes to now. */
 function endOrNow() {
   if (isStepping()) return stopStepping();
-  return finding.isOn || asking?.isOn || isFollowing() ? stopSearch() : backToNow();
+  if (finding.isOn || asking?.isOn || isFollowing()) return stopSearch();
+  return closeMenu() || backToNow();
 }
 
 // What each key does anywhere in the page: those of a browser's debugger, and that which pauses and runs.

@@ -35,6 +35,9 @@ import { isNoteUnsafe, openWork, Work } from "../../host/work.js";
 const LONGEST_READ = LONGEST_RECORDING + 1, LONGEST_FILE = 67108865;
 // What a text is called that may be a source.
 const IS_TEXT = /\.(?:asm|s|inc|mod|txt|c|h|oberon)$/i;
+// Files of other programs, by how they begin.
+/** @type {[string, string][]} */
+const OTHERS = [["PK\x03\x04", "a ZIP archive"], ["\x89PNG", "a PNG picture"], ["%PDF", "a PDF document"], ["\xff\xd8\xff", "a JPEG picture"], ["GIF8", "a GIF picture"], ["\x1f\x8b", "packed by gzip"]];
 // How often something was chosen to be opened.
 let chosen = 0;
 
@@ -82,7 +85,7 @@ function openBytes(name, bytes) {
     const first = String.fromCharCode(...bytes.subarray(0, 64)).trimStart();
     if (/\.orsr$/i.test(name) || first.startsWith("ORSR")) await openRecording(name, bytes);
     else if (/\.json$/i.test(name) || first.startsWith("{")) await openSession(name, bytes);
-    else offerImage(name, bytes);
+    else offerImage(name, bytes, first);
   });
 }
 
@@ -200,12 +203,11 @@ export async function showVerdict(file, answer) {
   if (wrong || accepted) await showClaim(wrong?.number ?? accepted?.checkpoints ?? 0);
 }
 
-/**
- * @param {string} name
- * @param {Bytes} bytes
- */
-function offerImage(name, bytes) {
+/** @param {string} name @param {Bytes} bytes @param {string} first how the file begins */
+function offerImage(name, bytes, first) {
+  const [, other] = OTHERS.find(([begin]) => first.startsWith(begin)) ?? [];
   if (!bytes.length) throw new Refusal("an empty file has nothing to open");
+  if (other) throw new Refusal(`it is ${other}, and not a recording, a session or an image of memory`);
   if (bytes.length > MEMORY_BYTES)
     throw new Refusal(`${grouped(bytes.length)} bytes are not a recording, not a session and not an image of memory`);
   setImage({ name, bytes });

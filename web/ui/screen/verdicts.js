@@ -3,7 +3,7 @@
  * was saved. Each check has a worker of its own. */
 import { app } from "../../host/app.js";
 import { el, made, named, notice } from "../../host/elements.js";
-import { readLine } from "../../formats/lines.js";
+import { faultText, readLine } from "../../formats/lines.js";
 import { Helper } from "../../host/requests.js";
 import { PER_SECOND } from "../../formats/states.js";
 import { grouped, many, timeText } from "../../formats/texts.js";
@@ -104,7 +104,7 @@ class Verdict {
    */
   judged({ line, status }) {
     const other = this.line;
-    this.show(line, status, OF_ONE_CALL);
+    this.show(line, status, `${faultText(line)} ${OF_ONE_CALL}`.trim());
     if (other && other !== line) notice(`The slices came to another line, which this page's script or the browser got wrong: ${other}`, true);
     return { line, status, ...this.read };
   }

@@ -84,9 +84,11 @@ function showPart(file) {
 export const writeProgram = () => oneAtATime("a program", writeNow);
 
 async function writeNow() {
-  if (!desk.isEdited && !(await openNewest())) {
+  if (!desk.isEdited) {
     await beginSource();
     showSource(FIRST_FILE, FIRST_SOURCE);
+    editor.goTo(...editor.end);
+    await openNewest();
   }
   showTab("source");
   if (document.activeElement !== editor.field) editor.goTo(...editor.end);
@@ -374,7 +376,7 @@ export const isSourceName = (name) => /\.(?:asm|inc)$/i.test(name);
 export function listenToSource() {
   ownEditor({ changed, beside, pressed: pressLine });
   on("source-run", "click", runSource);
-  on("source-again", "click", runAgain);
+  on("source-again", "click", ({ detail }) => (detail > 1 ? undefined : runAgain()));
   on("source-save", "click", saveSource);
   on("source-part", "change", ({ target }) => showPart(target.value));
   on("write", "click", writeProgram);

@@ -103,11 +103,10 @@ export async function beginSource(id, head = null) {
   return isFree;
 }
 
-/** Opens the source that was changed last, of those that are kept or wait to be. Returns whether there is one. */
+/** Opens the source that was changed last, of those that are kept or wait to be, if there is one and nothing was typed until the storage answered. */
 export async function openNewest() {
   const newest = (await listed()).heads.find(isSource);
-  if (newest) await openKept(newest.of);
-  return newest !== undefined;
+  if (newest && !isEdited()) await openKept(newest.of);
 }
 
 /** Opens a source that is kept, as it is now, with its caret and its breakpoints. One that is open already stays as it is.
@@ -127,7 +126,7 @@ async function showKeptSource(id) {
   const { name, desk: { file, caret, breaks } } = /** @type {SourceHead} */ (head), { parts, lesson } = body;
   open.name = name;
   commands.showSources(parts.map((/** @type {KeptPart} */ part, /** @type {number} */ at) => ({ ...part, breaks: breaks[at] })), { file, isEdited: true });
-  if (caret) editor.goTo(...caret);
+  if (caret || document.activeElement === editor.field) editor.goTo(...(caret ?? editor.end));
   if (lesson) commands.showLesson(lesson);
 }
 

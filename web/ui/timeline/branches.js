@@ -60,10 +60,10 @@ async function toBranchNow(branch) {
 }
 
 export function showBranches() {
-  const list = [...branches.list].sort((one, other) => one.number - other.number), items = list.map((work) => {
+  const list = [...branches.list].sort((one, other) => one.number - other.number), items = list.map((work, at) => {
     const back = listButton(work.branch, () => toBranch(work));
     back.title = `Return to ${work.branch}`;
-    return [back, ` from ${secondsOf(work.parent)} to ${secondsOf(work.end)}; `];
+    return [back, ` from ${secondsOf(work.parent)} to ${secondsOf(work.end)}${list[at + 1] ? "; " : "."}`];
   });
   el("branches").hidden = !list.length;
   el("branches").replaceChildren("Other branches: ", ...items.flat());

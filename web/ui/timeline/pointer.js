@@ -9,7 +9,6 @@ import { el, isNarrow, set } from "../../host/elements.js";
 import { hitMarks } from "./hits.js";
 import { claimMarks, lanes } from "./lanes.js";
 import { showSpan, zoom } from "./loading.js";
-import { shownCount } from "../../host/shown.js";
 import { columnOf, columns, countAt, timeline } from "./span.js";
 
 const GLYPH_WIDTH = 6, FINGER_MOVE = 6;
@@ -18,8 +17,8 @@ const MARGIN = 0.02;
 /** The pointers that press the track, with where they are.
  * @type {Map<number, number>} */
 const pointers = new Map();
-// A finger looks at the count that it `pressed` only once it moves or is lifted, since another may come with it.
-const pressing = { at: /** @type {number | null} */ (null) };
+// The count that is pressed. A finger looks at it only once it has moved so far, or is lifted, since another one may come with it.
+const pressing = { at: 0, far: 1 };
 
 /** @param {MouseEvent} event */
 const xOf = (event) => event.clientX - el("track").getBoundingClientRect().left;
@@ -34,7 +33,7 @@ export function trackPressed(event) {
   el("cursor").focus({ preventScroll: true });
   const isDragged = pointers.size === 1, at = answerUnder(event)?.count ?? glyphNear(event) ?? countAt(xOf(event)), isFinger = event.pointerType === "touch";
   timeline.isDragged = isDragged;
-  pressing.at = isDragged && isFinger ? at : null;
+  Object.assign(pressing, { at, far: isFinger ? FINGER_MOVE : 1 });
   if (isDragged && !isFinger) return commands.moveCursor(at, false);
 }
 
@@ -78,10 +77,10 @@ function glyphNear(event) {
 export function trackMoved(event) {
   if (!pointers.has(event.pointerId)) return nameUnder(event);
   if (pointers.size === 2) return pinch(event);
-  if (Math.abs(event.clientX - (pointers.get(event.pointerId) ?? 0)) < (pressing.at === null ? 1 : FINGER_MOVE)) return;
-  pressing.at = null;
+  if (Math.abs(event.clientX - (pointers.get(event.pointerId) ?? 0)) < pressing.far) return;
+  Object.assign(pressing, { at: countAt(xOf(event)), far: 1 });
   pointers.set(event.pointerId, event.clientX);
-  if (timeline.isDragged) return commands.moveCursor(countAt(xOf(event)), false);
+  if (timeline.isDragged) return commands.moveCursor(pressing.at, false);
 }
 
 /** Zooms by the distance of two fingers, around the one that stays.
@@ -97,10 +96,8 @@ function pinch({ pointerId, clientX }) {
 export function trackReleased(event) {
   if (!pointers.delete(event.pointerId)) return;
   if (!timeline.isDragged) return;
-  const at = pressing.at ?? shownCount();
   timeline.isDragged = false;
-  pressing.at = null;
-  return commands.moveCursor(at);
+  return commands.moveCursor(pressing.at);
 }
 
 /** The wheel zooms around the pointer with Ctrl, and moves along with Shift, or sideways; else it scrolls the page.
