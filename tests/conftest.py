@@ -1,10 +1,12 @@
 """What the suites of tests share: the built program and the library as fixtures, the order of the files, and what tests say at the end."""
 
+import os
 from pathlib import Path
 
 import pytest
 from _pytest.terminal import TerminalReporter
 
+from galluspa.engine.library import VARIABLE
 from tests.support import TOP
 from tests.tools.samples import PROGRAM
 
@@ -41,7 +43,7 @@ def program() -> Path:
 @pytest.fixture(scope="session")
 def shared_library() -> Path:
     """The shared library, where the tools find it."""
-    for path in LIBRARIES:
+    for path in (*map(Path, filter(None, [os.environ.get(VARIABLE)])), *LIBRARIES):
         if path.is_file():
             return path
     pytest.fail(f"{LIBRARIES[0]} is not there: run examples/c/install out first", pytrace=False)

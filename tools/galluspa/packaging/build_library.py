@@ -185,23 +185,22 @@ def compile_crate(known: dict[str, list[str]], crates: Sequence[str], kit_folder
     return compiled
 
 
-def link(compiled: Path, kit_folder: Path, folder: Path) -> None:
+def link(compiled: Path, folder: Path, output: Path) -> None:
     """Links the crate with the kit's heap (over malloc, realloc and free, which is all that the library needs) to one
-    object, and makes both libraries of it."""
-    whole = folder / f"{LIBRARY}.o"
-    called(["ld", "-r", "--whole-archive", compiled, kit_folder / "c/liblibc_c.a", "-o", whole], OUT)
-    called(["objcopy", "--wildcard", f"--keep-global-symbol={LIBRARY}_*", whole], OUT)
-    ARCHIVE.unlink(missing_ok=True)
-    called(["ar", "rcsD", ARCHIVE, whole], OUT)
-    called(["cc", "-shared", "-Wl,--no-undefined", f"-Wl,-soname,{SONAME}", whole, "-o", SHARED], OUT)
+    object, and makes the shared library of it, and the static one beside it."""
+    whole, archive = folder / f"{LIBRARY}.o", output.with_suffix(".a")
+    called(["ld", "-r", "--whole-archive", compiled, kit() / "c/liblibc_c.a", "-o", whole], folder)
+    called(["objcopy", "--wildcard", f"--keep-global-symbol={LIBRARY}_*", whole], folder)
+    archive.unlink(missing_ok=True)
+    called(["ar", "rcsD", archive, whole], folder)
+    called(["cc", "-shared", "-Wl,--no-undefined", f"-Wl,-soname,{SONAME}", whole, "-o", output], folder)
 
 
 def build(known: dict[str, list[str]], crates: Sequence[str]) -> None:
     """Builds all three."""
-    kit_folder = kit()
     OUT.mkdir(exist_ok=True)
     with temporary_folder() as folder:
-        link(compile_crate(known, crates, kit_folder, folder), kit_folder, folder)
+        link(compile_crate(known, crates, kit(), folder), folder, SHARED)
 
 
 def parser() -> Parser:
