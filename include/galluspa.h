@@ -499,7 +499,7 @@ uint8_t galluspa_past_find(galluspa_past *past, uint64_t from, uint64_t to, cons
 uint8_t galluspa_past_hits(galluspa_past *past, uint64_t *from, uint64_t to, const galluspa_condition *conditions,
                            size_t conditions_len, uint64_t budget, galluspa_hit *hits, size_t hits_len, size_t *hits_count);
 
-/* A part of a machine, whose writes galluspa_past_write finds. */
+/* A part of a machine, whose writes galluspa_past_write and galluspa_past_why find. */
 enum {
     GALLUSPA_REGISTER = 1, /* the bits of a register that mask names: first is the register, as of GALLUSPA_BECOMES. R0 to R15 and H are
                             * written whole; the flags as for GALLUSPA_WRITES_FLAGS. A mask of 0 is refused, and for the flags one that is
@@ -540,6 +540,38 @@ typedef struct {
  * (only if all is in range): then keyframes may have been added. Then nothing is written. */
 uint8_t galluspa_past_write(galluspa_past *past, const galluspa_part *part, uint32_t changing, uint64_t before, uint64_t budget,
                             galluspa_write *write, uint64_t *progress);
+
+/* Where the value of a part comes from: 80 bytes. */
+typedef struct {
+    uint64_t count;     /* the count of the instruction that wrote it, or of the input; 0 if nothing did */
+    uint64_t input;     /* the index of the input among those of the past, else 0 */
+    uint32_t how;       /* 0: nothing wrote it from the first count on; 1: the instruction of the count; 2: an input */
+    uint32_t value;     /* the value: that of the input, or the bits of the part that mask names, after the write or at the first count */
+    uint32_t pc;        /* the program counter before the instruction, in words. This and what follows is 0 if how is not 1 */
+    uint32_t has_word;  /* 1, or 0 if the program counter is beyond RAM, where the machine stops */
+    uint32_t word;      /* the word of the instruction */
+    uint32_t bits;      /* the bits of the part that it wrote: the others that mask names come from an earlier write */
+    uint32_t origins_count;       /* how many origins there are, from 0 to 3 */
+    galluspa_part origins[3];     /* the parts from which it computed what it wrote, and then fillers */
+} galluspa_link;
+
+/* Finds where the value of a part before the count before comes from: its last write, from the first count of the past on, the value that
+ * this gave it, and the parts from which the instruction computed it. These are its operands, what it loads, C if it takes part, and the
+ * register of the address of a load or store; a number of an instruction, a link, and what a device word reads that no input sets, are
+ * from none. What made the run come to the instruction, and the condition of a branch, are left out.
+ *
+ * To go further back, ask about each origin before the count of the link; about one of the kind GALLUSPA_INPUTS before the count + 1,
+ * since the machine takes the inputs of a count before its instruction. If bits has not all bits of the mask, ask about the part with the
+ * other bits before the count of the link, too.
+ *
+ * budget is as for galluspa_past_write. Returns GALLUSPA_DONE, and writes the link; or GALLUSPA_MORE if the budget is spent, and writes
+ * *progress: there is no write from it on. Call again with *progress in place of before to go on: the answer is that about before.
+ *
+ * Else it is GALLUSPA_OUT_OF_RANGE if before is before the first count, budget is 0, or a number of the part is out of its range;
+ * GALLUSPA_LATER if before is after the end: then the past is exactly as it was; GALLUSPA_CLOSED; or GALLUSPA_OUT_OF_MEMORY (only if all
+ * is in range): then keyframes may have been added. Then nothing is written. */
+uint8_t galluspa_past_why(galluspa_past *past, const galluspa_part *part, uint64_t before, uint64_t budget, galluspa_link *link,
+                          uint64_t *progress);
 
 /* Records what the instructions of a past do, from the count *from up to but not including to: writes a record for each count to the
  * front of records, which is not empty, as galluspa_records does, and their number to *records_count. *from is then the count after the

@@ -74,6 +74,22 @@ class Past(ctypes.Structure):
     _fields_ = [("past", ctypes.c_void_p), ("is_open", ctypes.c_uint64)]
 
 
+class Asked(ctypes.Structure):
+    """A part of a machine that a past is asked about."""
+
+    _fields_ = [(name, ctypes.c_uint32) for name in ("kind", "first", "mask")]
+
+
+class Link(ctypes.Structure):
+    """Where the value of a part comes from."""
+
+    _fields_ = [
+        *((name, ctypes.c_uint64) for name in ("count", "input")),
+        *((name, ctypes.c_uint32) for name in ("how", "value", "pc", "has_word", "word", "bits", "origins_count")),
+        ("origins", Asked * 3),
+    ]
+
+
 class Extent(ctypes.Structure):
     _fields_ = [(name, ctypes.c_uint64) for name in ("first", "end", "reached", "keyframes", "pages", "inputs")]
 
@@ -107,6 +123,7 @@ class Library:
             "records",
             "profile",
             "calls",
+            "why",
         )
         for name in pasts:
             getattr(self.c, f"galluspa_past_{name}").restype = ctypes.c_uint8
@@ -448,6 +465,20 @@ class Library:
         if any(it != (77, 78) for it in found[number:]) or (code not in (0, 12) and (at.value, count.value) != (start, 77)):
             fail("a search of a past for all hits writes something else than its answer")
         return code, found[:number], at.value
+
+    def why_in_past(
+        self, past: Past, part: tuple[int, int, int], before: int, budget: int = 1 << 40
+    ) -> tuple[int, Link | None, int]:
+        """Returns the result of a question about where a value comes from, the link, and how far the search came. Only these are to be
+        written."""
+        link, progress = Link(), ctypes.c_uint64(79)
+        ctypes.memset(ctypes.byref(link), 0xAA, ctypes.sizeof(link))
+        kept = bytes(link)
+        asked = ctypes.byref(past), ctypes.byref(Asked(*part)), ctypes.c_uint64(before), ctypes.c_uint64(budget)
+        code = self.c.galluspa_past_why(*asked, ctypes.byref(link), ctypes.byref(progress))
+        if (code and bytes(link) != kept) or (code != 12 and progress.value != 79):
+            fail("a question about where a value comes from writes something else than its answer")
+        return code, None if code else link, progress.value
 
     def records_in_past(self, past: Past, start: int, end: int, room: int, budget: int = 1 << 40) -> tuple[int, list[Record], int]:
         """Returns the result of recording a range of a past, the records, and where to go on. Nothing else is to be written."""

@@ -15,6 +15,7 @@ Memory = Words | memoryview
 MASK = 0xFFFFFFFF
 H, FLAGS = 16, 17
 MUL, DIV = 10, 11
+ADD_SUB = 8, 9
 # What is added to the kind of a condition that is joined to the next one.
 AND = 1 << 31
 # How many lists of joined conditions are sought in each run; and the random programs, and how many of their steps are examined.

@@ -6,7 +6,7 @@ from pathlib import Path
 
 import pytest
 
-from tests.library import calls, counts, examples, followed, header, pasts, ranges, refusals, searches
+from tests.library import calls, counts, examples, followed, header, origins, pasts, ranges, refusals, searches
 from tests.library.binding import Library
 from tests.library.trial import EXAMPLES, TOP, WARNINGS, expect, run
 
@@ -35,6 +35,10 @@ TRIALS: Sequence[Callable[[Library], None]] = (
     pasts.refuse_live_pasts,
     pasts.search_pasts,
     pasts.refuse_past_searches,
+    origins.follow_values,
+    origins.spend_budgets,
+    origins.change_other_parts,
+    origins.refuse_questions,
     ranges.ask_ranges,
     ranges.refuse_ranges,
     calls.call_together,

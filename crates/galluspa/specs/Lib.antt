@@ -15,5 +15,6 @@ pub mod Live
 pub mod Ranges
 pub mod Searches
 pub mod Writes
+pub mod Links
 pub mod Laws
 pub mod inner

@@ -1,9 +1,12 @@
 //! The parts of a machine whose writes a caller asks about, and a write, in the memory of a caller.
-ghost use Rattle.std.specs.Prelude.{◌≡◌};
+ghost use Rattle.std.specs.Prelude.{◌≡◌, ◌<◌, Some};
+ghost use Rattle.oberon_past.specs.Origins.{IsPart, IsRegister};
+ghost use Rattle.galluspa.specs.Conditions.{register_of};
 ghost use Rattle.galluspa.specs.Writes.{IsWrite, inputs_part, part_of, register_part, word_part, write_of};
 
 use crate::conditions::register_of;
 use oberon_past::{Part, Write, Writer};
+use risc_search::Register;
 
 /// A part of a machine: 12 bytes. Fields that its kind does not name are not read.
 ///
@@ -98,4 +101,32 @@ pub(crate) fn raw_write(write: &Write) -> RawWrite
         by,
         input,
     }
+}
+
+/// Returns the number of a register.
+fn register_number(register: Register) -> u32
+    requires { IsRegister register 1 }
+    ensures { register_of result ≡ Some register }
+{
+    match register {
+        Register::Numbered(number) => number as u32,
+        Register::Auxiliary => 16,
+        Register::Flags => 17,
+    }
+}
+
+/// Returns a part in the layout of C.
+#[tactic(auto, unfolding(crate::specs::Writes::part_of))]
+pub(crate) fn raw_part(part: Part) -> RawPart
+    requires { IsPart part }
+    ensures { part_of result ≡ Some part }
+{
+    let (kind, first, mask) = match part {
+        Part::Register(register, mask) => (1, register_number(register), mask),
+        Part::Word(number, mask) => (2, 4 * number, mask),
+        Part::Leds => (3, 0, 0),
+        Part::Inputs(kind) => (4, kind as u32, 0),
+        Part::Stop => (5, 0, 0),
+    };
+    RawPart { kind, first, mask }
 }

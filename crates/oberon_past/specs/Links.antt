@@ -1,12 +1,12 @@
 -- One link of the way back from a value: the last write of its part, the value that this gave it, and from which parts the instruction
 -- computed it (this project's own choice).
-use Rattle.std.specs.Prelude.{ℕ, ◌≡◌, ◌≢◌, ◌⊎◌, ◌+◌, ◌-◌, ◌^◌, ◌<◌, ◌≤◌, List, [], Option, None, Some, MatchOption, length, map, slice_index, take, ⊤}
+use Rattle.std.specs.Prelude.{ℕ, ◌≡◌, ◌≢◌, ◌⊎◌, ◌+◌, ◌-◌, ◌^◌, ◌<◌, ◌≤◌, All, List, [], Option, None, Some, MatchOption, length, map, slice_index, take, ⊤}
 use Rattle.risc_core.specs.Instruction.{instruction_of}
 use Rattle.risc_devices.specs.Input.{value_of as input_value}
 use Rattle.risc_model.specs.declared.event.Event.{Event}
 use Rattle.risc_model.specs.MachineState.{State}
 use Rattle.risc_search.specs.Effects.{next_word}
-use Rattle.oberon_past.specs.Origins.{bits_written, origins_of, value_of}
+use Rattle.oberon_past.specs.Origins.{IsPart, bits_written, origins_of, value_of}
 use Rattle.oberon_past.specs.Past.{PastParts}
 use Rattle.oberon_past.specs.Run.{Run, state_at}
 use Rattle.oberon_past.specs.Search.{IsOutOfRange, IsRange, IsSearched}
@@ -40,6 +40,7 @@ pub record IsComputation (part : Part) (s : State) (c : Computation) : Type 0 wh
   pub bits_are : c.bits ≡ bits_of part c.word s.cpu.r
   pub origins_are : take c.origins.count c.origins.list ≡ parts_read c.word s.cpu.r
   pub few : c.origins.count ≤ 3
+  pub parts : All IsPart c.origins.list
 
 -- a write of a run: its count is of the run, and the next one is a count, too; an input is one of the run's
 pub record IsWriteIn (run : Run) (write : Write) : Type 0 where

@@ -1,7 +1,7 @@
 -- From which parts an instruction computes what it writes (this project's own choice): its operands, what it loads, the carry if it takes
 -- part, and the register of the address of a load or store. A link, and a constant, come from none. Left out is what made the run come
 -- to the instruction, and the condition of a branch.
-use Rattle.std.specs.Prelude.{ℕ, ◌-◌, ◌*◌, ◌^◌, ◌==◌, ◌||◌, ◌&&◌, nat_lt, Bool, List, [], ◌∷◌, slice_index, if◌then◌else◌}
+use Rattle.std.specs.Prelude.{ℕ, ◌<◌, ◌≤◌, ◌-◌, ◌*◌, ◌^◌, ◌==◌, ◌||◌, ◌&&◌, nat_lt, Bool, List, [], ◌∷◌, slice_index, if◌then◌else◌, ⊤}
 use Rattle.risc_core.specs.declared.address.Place.{Place}
 use Rattle.risc_core.specs.declared.address.Place.TheVariants.{Ram, Device, Nowhere}
 use Rattle.risc_core.specs.declared.instruction.Instr.{Instr}
@@ -48,6 +48,20 @@ values_of Stop s = s.cpu.stop ∷ []
 -- the value of a part: of key codes the oldest, or 0 if none waits
 abbrev pub value_of : Part → State → ℕ
 value_of part s = oldest (values_of part s)
+
+-- a register that there is, and a mask that names bits of it
+abbrev pub IsRegister : RegisterOf → ℕ → Type 0
+IsRegister (Numbered number) mask = (number < 16) × (0 < mask)
+IsRegister Auxiliary mask = 0 < mask
+IsRegister Flags mask = (0 < mask) × (mask < 16)
+
+-- a part that there is
+abbrev pub IsPart : Part → Type 0
+IsPart (Register register mask) = IsRegister register mask
+IsPart (Word number mask) = (number < 2 ^ 18) × (0 < mask)
+IsPart Leds = ⊤
+IsPart (Inputs kind) = (1 ≤ kind) × (kind ≤ 6)
+IsPart Stop = ⊤
 
 -- ---- the parts from which an instruction computes
 

@@ -1,8 +1,9 @@
 //! Where a value comes from: the parts from which the instruction that wrote it computed it.
-ghost use Rattle.std.specs.Prelude.{◌≡◌, ◌<◌, ◌≤◌, [], ◌∷◌, take};
+ghost use Rattle.std.specs.Prelude.{◌≡◌, ◌<◌, ◌≤◌, [], ◌∷◌, All, take};
 ghost use Rattle.risc_core.specs.Instruction.{HasFields, instruction_of};
+ghost use Rattle.risc_core.specs.Place.{IsInside};
 ghost use Rattle.oberon_past.specs.declared.part.Part.{Part};
-ghost use Rattle.oberon_past.specs.Origins.{accessed_bits, bits_stored, bits_written, device_parts, flags_written, has_carry, kind_read, loaded_parts, moved_part, operand_parts, origins_of, register_bits, register_part};
+ghost use Rattle.oberon_past.specs.Origins.{IsPart, accessed_bits, bits_stored, bits_written, device_parts, flags_written, has_carry, kind_read, loaded_parts, moved_part, operand_parts, origins_of, register_bits, register_part};
 
 use crate::part::Part;
 use risc_core::operations::{ADD, DIV, MOV, SUB};
@@ -30,6 +31,7 @@ pub struct Origins {
 pub fn origins_of(word: u32, registers: &[u32; 16]) -> Origins
     ensures list { take result.count result.list ≡ origins_of (instruction_of word) registers.now }
     ensures few { result.count ≤ 3 }
+    ensures parts { All IsPart result.list }
 {
     computed_from(decode(word), registers)
 }
@@ -62,6 +64,7 @@ fn register_bits(register: Register, mask: u32, instruction: Instr) -> u32
 pub(crate) fn no_parts() -> Origins
     ensures list { take result.count result.list ≡ [] }
     ensures few { result.count ≤ 3 }
+    ensures parts { All IsPart result.list }
 {
     Origins {
         list: [Part::Stop; 3],
@@ -70,8 +73,10 @@ pub(crate) fn no_parts() -> Origins
 }
 
 fn one(part: Part) -> Origins
+    requires { IsPart part }
     ensures list { take result.count result.list ≡ part ∷ [] }
     ensures few { result.count ≤ 3 }
+    ensures parts { All IsPart result.list }
 {
     Origins {
         list: [part, Part::Stop, Part::Stop],
@@ -80,8 +85,11 @@ fn one(part: Part) -> Origins
 }
 
 fn two(first: Part, second: Part) -> Origins
+    requires first { IsPart first }
+    requires second { IsPart second }
     ensures list { take result.count result.list ≡ first ∷ second ∷ [] }
     ensures few { result.count ≤ 3 }
+    ensures parts { All IsPart result.list }
 {
     Origins {
         list: [first, second, Part::Stop],
@@ -90,8 +98,12 @@ fn two(first: Part, second: Part) -> Origins
 }
 
 fn three(first: Part, second: Part, third: Part) -> Origins
+    requires first { IsPart first }
+    requires second { IsPart second }
+    requires third { IsPart third }
     ensures list { take result.count result.list ≡ first ∷ second ∷ third ∷ [] }
     ensures few { result.count ≤ 3 }
+    ensures parts { All IsPart result.list }
 {
     Origins {
         list: [first, second, third],
@@ -100,7 +112,9 @@ fn three(first: Part, second: Part, third: Part) -> Origins
 }
 
 fn register_part(number: u8) -> Part
-    ensures { result ≡ register_part number }
+    requires { number < 16 }
+    ensures part { result ≡ register_part number }
+    ensures there { IsPart result }
 {
     Part::Register(Register::Numbered(number), ALL_BITS)
 }
@@ -114,7 +128,9 @@ fn has_carry(op: u8, u: bool) -> bool
 
 /// Returns what a move to a register moves.
 fn moved_part(u: bool, v: bool, c: u8) -> Part
-    ensures { result ≡ moved_part u v c }
+    requires { c < 16 }
+    ensures part { result ≡ moved_part u v c }
+    ensures there { IsPart result }
 {
     if !u {
         return register_part(c);
@@ -128,7 +144,8 @@ fn moved_part(u: bool, v: bool, c: u8) -> Part
 /// Returns the bits of a word that a load or store accesses.
 fn accessed_bits(byte: bool, lane: u8) -> u32
     requires { lane < 4 }
-    ensures { result ≡ accessed_bits byte lane }
+    ensures bits { result ≡ accessed_bits byte lane }
+    ensures some { 0 < result }
 {
     if byte {
         0xFF << 8 * lane as u32
@@ -139,7 +156,8 @@ fn accessed_bits(byte: bool, lane: u8) -> u32
 
 /// Returns the kind of inputs that sets what a device word reads, or 0.
 fn kind_read(word: u8) -> u8
-    ensures { result ≡ kind_read word }
+    ensures kind { result ≡ kind_read word }
+    ensures range { result ≤ 6 }
 {
     match word {
         words::TIMER => kinds::TIMER,
@@ -155,8 +173,10 @@ fn kind_read(word: u8) -> u8
 
 /// Returns what a device word reads, and then another part.
 fn device_parts(word: u8, other: Part) -> Origins
+    requires { IsPart other }
     ensures list { take result.count result.list ≡ device_parts word (other ∷ []) }
     ensures few { result.count ≤ 3 }
+    ensures parts { All IsPart result.list }
 {
     if word == words::MOUSE {
         return three(Part::Inputs(kinds::MOUSE), Part::Inputs(kinds::KEY), other);
@@ -170,9 +190,12 @@ fn device_parts(word: u8, other: Part) -> Origins
 /// Returns what a load loads from a place, and then the register of its address.
 #[tactic(auto, unfolding(crate::specs::Origins::loaded_parts))]
 fn loaded_parts(target: Place, lane: u8, byte: bool, base: u8) -> Origins
-    requires { lane < 4 }
+    requires lane { lane < 4 }
+    requires base { base < 16 }
+    requires inside { IsInside target }
     ensures list { take result.count result.list ≡ loaded_parts target lane byte base }
     ensures few { result.count ≤ 3 }
+    ensures parts { All IsPart result.list }
 {
     let base = register_part(base);
     match target {
@@ -184,8 +207,11 @@ fn loaded_parts(target: Place, lane: u8, byte: bool, base: u8) -> Origins
 
 /// Returns the operands of an operation on two registers.
 fn register_operands(op: u8, u: bool, b: u8, c: u8) -> Origins
+    requires b { b < 16 }
+    requires c { c < 16 }
     ensures list { take result.count result.list ≡ operand_parts op u b (register_part c ∷ []) }
     ensures few { result.count ≤ 3 }
+    ensures parts { All IsPart result.list }
 {
     if op > DIV {
         return no_parts();
@@ -199,8 +225,10 @@ fn register_operands(op: u8, u: bool, b: u8, c: u8) -> Origins
 
 /// Returns the operands of an operation on a register and a number.
 fn immediate_operands(op: u8, u: bool, b: u8) -> Origins
+    requires { b < 16 }
     ensures list { take result.count result.list ≡ operand_parts op u b [] }
     ensures few { result.count ≤ 3 }
+    ensures parts { All IsPart result.list }
 {
     if op > DIV {
         return no_parts();
@@ -217,6 +245,7 @@ fn computed_from(instruction: Instr, registers: &[u32; 16]) -> Origins
     requires { HasFields instruction }
     ensures list { take result.count result.list ≡ origins_of instruction registers.now }
     ensures few { result.count ≤ 3 }
+    ensures parts { All IsPart result.list }
 {
     match instruction {
         Instr::Reg { op, u, v, b, c, .. } => {

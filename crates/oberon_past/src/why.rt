@@ -1,12 +1,12 @@
 //! Where the value of a part comes from, one link at a time: its last write, the value that this gave it, and the parts from which the
 //! instruction computed it. A caller that asks about these parts again goes back as far as it likes.
-ghost use Rattle.std.specs.Prelude.{◌≡◌, ◌<◌, ◌≤◌, ◌+◌, ◌-◌, ◌^◌, IfOk, IfSome, OnErr, Some, length, take};
+ghost use Rattle.std.specs.Prelude.{◌≡◌, ◌<◌, ◌≤◌, ◌+◌, ◌-◌, ◌^◌, All, IfOk, IfSome, OnErr, Some, length, take};
 ghost use Rattle.risc_devices.specs.KeyCodes.{oldest};
 ghost use Rattle.risc_model.specs.MachineState.{cpu_state};
 ghost use Rattle.risc_search.specs.Condition.{register_value};
 ghost use Rattle.risc_search.specs.Effects.{next_word};
 ghost use Rattle.oberon_past.specs.Links.{AdvancesWhy, IsComputation, IsLinkBy, IsWhy, IsWriteIn, asked_before, bits_of, input_value_at, parts_read};
-ghost use Rattle.oberon_past.specs.Origins.{set_by, value_of, word_in};
+ghost use Rattle.oberon_past.specs.Origins.{IsPart, set_by, value_of, word_in};
 ghost use Rattle.oberon_past.specs.Past.{IsLonger};
 ghost use Rattle.oberon_past.specs.Run.{state_at};
 ghost use Rattle.oberon_past.specs.Search.{IsRange};
@@ -229,6 +229,7 @@ fn next_word(cpu: &Cpu, memory: &Memory<'_>) -> Option<u32>
 fn parts_read(word: Option<u32>, registers: &[u32; 16]) -> Origins
     ensures list { take result.count result.list ≡ parts_read word registers.now }
     ensures few { result.count ≤ 3 }
+    ensures parts { All IsPart result.list }
 {
     match word {
         Some(word) => origins_of(word, registers),
