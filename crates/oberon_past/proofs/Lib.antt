@@ -13,3 +13,4 @@ mod Traces
 mod Counting
 mod CallsFollowed
 mod Drafts
+mod Warming

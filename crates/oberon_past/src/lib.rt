@@ -27,6 +27,7 @@ mod searching;
 mod steps;
 mod traced;
 mod tracing;
+mod warm;
 mod write;
 mod writes;
 
