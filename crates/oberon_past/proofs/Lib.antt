@@ -14,3 +14,4 @@ mod Traces
 mod Counting
 pub mod CallsFollowed
 mod Drafts
+mod Warming

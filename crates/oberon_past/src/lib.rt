@@ -29,6 +29,7 @@ mod searching;
 mod steps;
 mod traced;
 mod tracing;
+mod warm;
 mod why;
 mod write;
 mod writes;

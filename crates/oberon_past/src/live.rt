@@ -4,17 +4,20 @@ ghost use Rattle.risc_model.specs.declared.event.Event.{Event};
 ghost use Rattle.risc_model.specs.InputOrder.{AreOrdered, count_before};
 ghost use Rattle.oberon_past.specs.declared.progress.Ending.{Ending};
 ghost use Rattle.oberon_past.specs.Live.{AreNext, HasInputs, HasRun, IsBranchFault, IsInputFault, IsOutside, IsRunFault, IsUpTo};
-ghost use Rattle.oberon_past.specs.Past.{IsLonger};
+ghost use Rattle.oberon_past.specs.Past.{IsLonger, reached};
 ghost use Rattle.oberon_past.specs.Run.{state_at};
 ghost use Rattle.oberon_past.specs.inner.Kept.{IsNextKeyframe, IsStretch};
+ghost use Rattle.oberon_past.specs.inner.Warm.{IsAtEnd};
 
 use crate::copying::{inputs_copy, keyframes_copy, pool_copy};
 use crate::fault::PastFault;
 use crate::past::Past;
 use crate::progress::{Ending, Progress};
-use crate::running::{Reached, Stretch, closed, machine_at, run_with_room};
+use crate::running::{Ran, Reached, machine_at, reached_by, run_with_room};
 use crate::steps::Steps;
+use crate::warm::{Warm, kept_warm};
 use oberon_session::StoredPages;
+use risc_machine::Machine;
 use risc_model::{Event, MAX_COUNT, first_from};
 use std::alloc::{AllocError, Global};
 
@@ -41,6 +44,7 @@ impl Past {
             keyframes: keyframes_copy(alloc, &self.keyframes[..kept])?,
             spacing: self.spacing,
             end: at,
+            warm: None,
         })
     }
 
@@ -56,6 +60,7 @@ impl Past {
             return Err(outside);
         }
         let kept = self.nearest(at) + 1;
+        self.warm = None;
         self.keyframes.truncate(kept);
         let next = first_from(self.inputs.events(), at);
         self.inputs.truncate(next);
@@ -82,8 +87,10 @@ impl Past {
     /// Runs on to a count, which becomes the end of the past. Returns the bytes that the machine sends on the way.
     ///
     /// It does at most `budget` instructions, and none after the count of the next keyframe, which it adds; then the answer is `More`. It
-    /// ends before an instruction that sends a byte when there are `room` bytes already. Before that it does the instructions from the
-    /// last keyframe to the old end once more, and adds the keyframes up to there that are missing, within the budget.
+    /// ends before an instruction that sends a byte when there are `room` bytes already.
+    ///
+    /// It goes on with the machine that the last run left at the end. If there is none, as after a cut, it does the instructions from the
+    /// last keyframe to the end once more, and adds the keyframes up to there that are missing, within the budget.
     ///
     /// If memory runs out, the end is the old one; keyframes may have been added. A keyframe at the new end for which there is no memory is
     /// added later.
@@ -114,12 +121,18 @@ impl Past {
             });
         }
         let within = self.within(to, budget);
-        let (ran, next) = self.run_from_end(alloc, within, room)?;
-        self.end = ran.end;
+        let warm = self.warm.take();
+        let Ran {
+            stretch,
+            next,
+            warm,
+        } = self.run_from_end(alloc, warm, within, room)?;
+        self.end = stretch.end;
+        self.warm = warm;
         self.keep(alloc, next);
         Ok(Progress {
-            sent: ran.sent,
-            ending: ending(ran.end, within, to),
+            sent: stretch.sent,
+            ending: ending(stretch.end, within, to),
         })
     }
 
@@ -142,24 +155,70 @@ impl Past {
         to
     }
 
-    /// Runs on from the end of the past. Returns the next keyframe, too, if the run comes to its count and there is memory for it.
+    /// Returns the machine at the end: the one that was kept there, or else one that runs there from the last keyframe.
+    ///
+    /// If the last keyframe was added at the end, the machine that was kept goes on over its memory.
+    fn machine_at_end(&self, alloc: Global, warm: Option<Warm>) -> Result<Machine<'_>, AllocError>
+        requires { IfSome warm (IsAtEnd self.now.run self.now.end) }
+        ensures state { IfOk result (λ machine. machine.state ≡ state_at self.now.run self.now.end) }
+        ensures base { IfOk result (λ machine. machine.base ≡ (state_at self.now.run (reached self.now)).words) }
+    {
+        let last = &self.keyframes[self.keyframes.len() - 1];
+        if let Some(warm) = warm {
+            if warm.from == last.count {
+                return warm.machine.attach(alloc, &self.stored.pool, &last.table);
+            }
+            if self.end == last.count {
+                return warm.machine.rebase(alloc, &self.stored.pool, &last.table);
+            }
+        }
+        machine_at(alloc, &self.stored.pool, &self.inputs, last, self.end)
+    }
+
+    /// Runs on from the end of the past, with the machine that was kept there, if there is one.
     fn run_from_end(
         &self,
         alloc: Global,
+        warm: Option<Warm>,
         to: u64,
         room: usize,
-    ) -> Result<(Stretch, Option<Reached>), AllocError>
-        requires { self.now.end ≤ to }
-        ensures stretch { IfOk result (λ ran. IsStretch self.now.run.inputs self.now.end to room (state_at self.now.run self.now.end) ran.0) }
-        ensures next { IfOk result (λ ran. IfSome ran.1 (IsNextKeyframe (record self.now { end = ran.0.end }))) }
+    ) -> Result<Ran, AllocError>
+        requires forward { self.now.end ≤ to }
+        requires warm { IfSome warm (IsAtEnd self.now.run self.now.end) }
+        ensures stretch { IfOk result (λ ran.
+            IsStretch self.now.run.inputs self.now.end to room (state_at self.now.run self.now.end) ran.stretch) }
+        ensures next { IfOk result (λ ran. IfSome ran.next (IsNextKeyframe (record self.now { end = ran.stretch.end }))) }
+        ensures warm { IfOk result (λ ran. IfSome ran.warm (IsAtEnd self.now.run ran.stretch.end)) }
+    {
+        let mut machine = self.machine_at_end(alloc, warm)?;
+        let stretch = run_with_room(alloc, &mut machine, &self.inputs, self.end, to, room)?;
+        if stretch.end < to {
+            return Ok(Ran {
+                stretch,
+                next: None,
+                warm: None,
+            });
+        }
+        let last = &self.keyframes[self.keyframes.len() - 1];
+        Ok(Ran {
+            stretch,
+            next: self.next_keyframe(&machine, to),
+            warm: kept_warm(machine, last.count),
+        })
+    }
+
+    /// Returns the next keyframe, if a machine is at its count, and there is memory for it.
+    fn next_keyframe(&self, machine: &Machine<'_>, at: u64) -> Option<Reached>
+        requires forward { self.now.end ≤ at }
+        requires state { machine.now.state ≡ state_at self.now.run at }
+        requires base { machine.now.base ≡ (state_at self.now.run (reached self.now)).words }
+        ensures { IfSome result (IsNextKeyframe (record self.now { end = at })) }
     {
         let last = &self.keyframes[self.keyframes.len() - 1];
-        let mut machine = machine_at(alloc, &self.stored.pool, &self.inputs, last, self.end)?;
-        let ran = run_with_room(alloc, &mut machine, &self.inputs, self.end, to, room)?;
-        if ran.end < to || to - last.count != self.spacing.count {
-            return Ok((ran, None));
+        if at - last.count != self.spacing.count {
+            return None;
         }
-        Ok((ran, closed(machine).ok()))
+        reached_by(machine).ok()
     }
 
     /// Adds the next keyframe, if there is one. If there is no memory for it, it is added later.

@@ -14,12 +14,16 @@ ghost use Rattle.oberon_past.specs.declared.answer.Answer.{Answer};
 ghost use Rattle.oberon_past.specs.Past.{IsAnswer, IsExtent, IsFar, IsInside, IsLonger, IsMoment, IsNear, IsNearAnswer, IsOf, IsOpened, IsRefused, IsSpaced, LeavesKeyframes, first_asked, last_asked, nearest, nearest_count, reached};
 ghost use Rattle.oberon_past.specs.Run.{state_at, words_at};
 ghost use Rattle.oberon_past.specs.inner.Kept.{IsNextKeyframe};
+ghost use Rattle.oberon_past.specs.inner.Warm.{IsWarm};
+ghost use Rattle.oberon_format.specs.Recording.{parts_of};
+ghost use Rattle.std.proofs.Props.{props};
 
 use crate::answer::Answer;
 use crate::extent::Extent;
 use crate::moment::{Moment, changed_pages};
 use crate::running::{Reached, machine_at, reach};
 use crate::steps::Steps;
+use crate::warm::Warm;
 use oberon_format::{Checkpoint, Recording};
 use oberon_session::{StoredPages, store_pages, store_words};
 use risc_devices::Devices;
@@ -42,6 +46,9 @@ pub struct Past {
     pub(crate) keyframes: Vec<Checkpoint>,
     pub(crate) spacing: Steps,
     pub(crate) end: u64,
+    /// The machine at the end, if the last run left one there.
+    pub(crate) warm: Option<Warm>,
+    pub(crate) ghost warm_at_end: { IsWarm (parts_of stored.pool inputs keyframes.items) spacing.count end warm } by { Prim.hlevel props },
 }
 
 impl Model for Past {
@@ -378,6 +385,7 @@ fn past_from(
         keyframes,
         spacing,
         end,
+        warm: None,
     })
 }
 

@@ -7,6 +7,7 @@ ghost use Rattle.risc_model.specs.Replay.{run_of};
 ghost use Rattle.oberon_format.specs.CheckpointParts.{checkpoint_parts};
 ghost use Rattle.oberon_past.specs.inner.Kept.{IsReached, IsStretch, state_of};
 
+use crate::warm::Warm;
 use oberon_format::Checkpoint;
 use risc_devices::Devices;
 use risc_machine::{Machine, Output};
@@ -69,8 +70,22 @@ pub(crate) fn reach(
     closed(machine_at(alloc, pool, inputs, keyframe, to)?)
 }
 
+/// Returns where the run of a machine has come. It copies the pages that changed.
+pub(crate) fn reached_by(machine: &Machine<'_>) -> Result<Reached, AllocError>
+    ensures { IfOk result (IsReached machine.now.base machine.now.state) }
+{
+    // The contract of `owned` states that a memory has all its words.
+    let _owned = machine.memory().owned(0);
+    let delta = machine.memory().delta()?;
+    Ok(Reached {
+        cpu: *machine.cpu(),
+        devices: machine.devices().copy(),
+        changed: delta.changed,
+    })
+}
+
 /// Closes a machine, and returns where its run ended.
-pub(crate) fn closed(machine: Machine<'_>) -> Result<Reached, AllocError>
+fn closed(machine: Machine<'_>) -> Result<Reached, AllocError>
     ensures { IfOk result (IsReached machine.entry.base machine.entry.state) }
 {
     // The contract of `owned` states that a memory has all its words.
@@ -88,6 +103,16 @@ pub(crate) fn closed(machine: Machine<'_>) -> Result<Reached, AllocError>
 pub(crate) struct Stretch {
     pub(crate) end: u64,
     pub(crate) sent: Vec<u8>,
+}
+
+/// A run on from the end of a past.
+#[derive(Drop)]
+pub(crate) struct Ran {
+    pub(crate) stretch: Stretch,
+    /// The next keyframe, if the run came to its count, and there is memory for it.
+    pub(crate) next: Option<Reached>,
+    /// The machine at the new end, if it is there, and there is memory for it.
+    pub(crate) warm: Option<Warm>,
 }
 
 /// Runs a machine on, as long as there is room for the bytes that it sends.

@@ -133,6 +133,46 @@ fn runs_on_takes_inputs_and_is_cut(rt: HostRuntime) {
     }
 }
 
+/// Returns what is wrong with a past that runs on in steps, beside one that runs on at once, if something is.
+fn fault_of_steps(alloc: Global) -> Option<&'static str> {
+    let (Some(mut whole), Some(mut stepped)) = (begun(alloc), begun(alloc)) else {
+        return Some("the beginning");
+    };
+    for end in [108, 116, 124, 130] {
+        if ending_at(alloc, &mut whole, 130) != Some(end) {
+            return Some("the run at once");
+        }
+    }
+    for end in 101..131 {
+        if ending_at(alloc, &mut stepped, end) != Some(end) {
+            return Some("a step");
+        }
+        if end == 111 && stepped.extent().keyframes != 2 {
+            return Some("a keyframe on the way");
+        }
+        if seen(alloc, &mut stepped, end) != seen(alloc, &mut whole, end) {
+            return Some("the state after a step");
+        }
+    }
+    if seen(alloc, &mut stepped, 107) != seen(alloc, &mut whole, 107) {
+        return Some("an earlier state");
+    }
+    None
+}
+
+/// Runs a past on, and returns the count that it comes to.
+fn ending_at(alloc: Global, past: &mut Past, to: u64) -> Option<u64> {
+    let _ran = past.run(alloc, to, Steps::new(1_000)?, 64).ok()?;
+    Some(past.extent().end)
+}
+
+#[test]
+fn runs_on_in_steps_as_at_once(rt: HostRuntime) {
+    if let Some(part) = fault_of_steps(rt.alloc()) {
+        panic!(rt; "wrong: {part}");
+    }
+}
+
 /// Returns what is wrong with runs that end early, if something is.
 fn fault_of_early_ends(alloc: Global) -> Option<&'static str> {
     let Some(mut past) = begun(alloc) else {

@@ -10,8 +10,8 @@ use Rattle.oberon_past.proofs.past.past_from.Goals as goal
 pub store_words-requires-clause-named : goal.store_words-requires-clause-named
 store_words-requires-clause-named c = rw (c.zeros.ensures, c.new.ensures) no-table.named
 
-pub invariant_of-result : goal.invariant_of-result
-invariant_of-result c =
+pub invariant_of-result-2 : goal.invariant_of-result-2
+invariant_of-result-2 c =
     let first = c.args.first in
     let words : List ℕ = c.args.words.now in
     let stored-so = c.in_ok-store_words.ensures.stored

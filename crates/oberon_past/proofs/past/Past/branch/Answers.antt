@@ -15,8 +15,8 @@ use Rattle.oberon_past.proofs.past.Past.branch.Goals as goal
 pub inputs_copy-requires : goal.inputs_copy-requires
 inputs_copy-requires c = ordered-take c.events-events.result.now c.first_from-next.result c.first_from-next.ensures.ordered
 
-pub invariant_of-result : goal.invariant_of-result
-invariant_of-result c =
+pub invariant_of-result-2 : goal.invariant_of-result-2
+invariant_of-result-2 c =
     let past = c.self.inside in
     let at : ℕ = c.args.at in
     let k : ℕ = c.nearest-kept.result in

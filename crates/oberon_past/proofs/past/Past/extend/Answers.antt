@@ -1,10 +1,50 @@
-use Rattle.std.proofs.Common.{◌≡◌, ◌<◌, ◌≤◌, ◌+◌, ◌-◌, ℕ, arith, length, refl, subst, sym}
+use Rattle.std.proofs.Common.{ap, ◌≡◌, ◌<◌, ◌≤◌, ◌+◌, ◌-◌, ℕ, arith, length, refl, subst, sym}
 use Rattle.risc_model.specs.Replay.{run_of}
 use Rattle.oberon_format.specs.CheckpointParts.{checkpoint_parts}
 use Rattle.oberon_past.proofs.Extending.{is-next, many-parts, next-count, run-is}
+use Rattle.oberon_past.proofs.Warming.{warm-prop}
+use Rattle.oberon_format.specs.Recording.{parts_of}
 use Rattle.oberon_past.specs.Past.{PastParts, reached}
+use Rattle.oberon_past.specs.declared.past.Past.TheInside.{Inside}
 use Rattle.oberon_past.specs.inner.Kept.{IsNextKeyframe, state_of}
+use Rattle.oberon_past.specs.inner.Warm.{IsWarm}
 use Rattle.oberon_past.proofs.past.Past.extend.Goals as goal
+
+pub same-self : goal.same-self
+same-self c =
+    let past = c.self.inside in
+    let kept = parts_of past.stored.pool past.inputs past.keyframes.items in
+    let spacing : ℕ = past.spacing.count in
+    let end : ℕ = past.end in
+    ap
+    (λ (w : IsWarm kept spacing end past.warm). let i : Inside = record {
+      stored = past.stored;
+      inputs = past.inputs;
+      keyframes = past.keyframes;
+      spacing = past.spacing;
+      end = past.end;
+      warm = past.warm;
+      warm_at_end = w;
+    } in i)
+    (warm-prop kept spacing end past.warm _ past.warm_at_end)
+
+pub same-self-2 : goal.same-self-2
+same-self-2 c =
+    let past = c.self.inside in
+    let kept = parts_of past.stored.pool past.inputs past.keyframes.items in
+    let spacing : ℕ = past.spacing.count in
+    let end : ℕ = past.end in
+    ap
+    (λ (w : IsWarm kept spacing end past.warm). let i : Inside = record {
+      stored = past.stored;
+      inputs = past.inputs;
+      keyframes = past.keyframes;
+      spacing = past.spacing;
+      end = past.end;
+      warm = past.warm;
+      warm_at_end = w;
+    } in i)
+    (warm-prop kept spacing end past.warm _ past.warm_at_end)
 
 pub add-requires : goal.add-requires
 add-requires c =
