@@ -15,5 +15,6 @@ pub mod Live
 pub mod Ranges
 pub mod Searches
 pub mod Writes
+pub mod Drafts
 pub mod Laws
 pub mod inner
