@@ -617,6 +617,26 @@ uint8_t galluspa_past_profile(galluspa_past *past, uint64_t *from, uint64_t to, 
 uint8_t galluspa_past_calls(galluspa_past *past, uint64_t *from, uint64_t to, uint32_t limit, uint64_t budget, galluspa_call *calls,
                             size_t calls_len, size_t *calls_count, galluspa_turn *turns, size_t turns_len, size_t *turns_count);
 
+/* Makes a recording of a past that begins at count 0: the initial state, the inputs, and a checkpoint at each of counts, which rise. It
+ * goes on with recording, a recording of this past, or begins one if recording_len is 0; *recorded, 0 at first, is how many of counts have
+ * checkpoints there. It adds checkpoints at the counts from counts[*recorded] on, with the states and the bytes of the run; writes the
+ * longer recording to out, and its length to *out_count; and writes to *recorded how many of counts have checkpoints now. A recording
+ * that begins here and is gone on with here alone has true checkpoints: galluspa_check accepts it.
+ *
+ * After budget instructions it begins no other checkpoint; one that it has begun it adds, unless the past has to add keyframes first,
+ * for which it does as many; beside these a call does at most some two spacings for each checkpoint. Returns GALLUSPA_DONE; or
+ * GALLUSPA_MORE if the budget is spent: what is written is a recording with the first *recorded counts. Pass it as recording to go on.
+ *
+ * Else it is GALLUSPA_OUT_OF_RANGE if the past begins after count 0, budget is 0, *recorded is above counts_len, or a count is not above
+ * that of the checkpoint before it or is above 2^40; GALLUSPA_LATER if one of counts is after the end; GALLUSPA_CLOSED;
+ * GALLUSPA_NO_RECORDING if the bytes of recording are not one; GALLUSPA_TOO_MANY_INPUTS, GALLUSPA_TOO_MANY_CHECKPOINTS,
+ * GALLUSPA_TOO_MUCH_OUTPUT or GALLUSPA_TOO_MANY_PAGES; GALLUSPA_OUT_OF_MEMORY (never for bytes that are not a recording); or
+ * GALLUSPA_NO_ROOM, and then *out_count says how much room is needed. Then nothing else is written.
+ *
+ * A call reads recording, and writes all of the longer one, so that a budget for many checkpoints is faster than one for each. */
+uint8_t galluspa_past_record(galluspa_past *past, const uint8_t *recording, size_t recording_len, const uint64_t *counts,
+                             size_t counts_len, size_t *recorded, uint64_t budget, uint8_t *out, size_t out_len, size_t *out_count);
+
 #ifdef __cplusplus
 }
 #endif

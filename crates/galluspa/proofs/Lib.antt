@@ -12,6 +12,7 @@ mod RecordedLemmas
 mod FileLemmas
 mod ExtendLemmas
 mod RecordLemmas
+mod DraftLemmas
 mod JoinLemmas
 pub mod OpenLemmas
 mod LooseValues

@@ -16,5 +16,6 @@ pub mod Ranges
 pub mod Searches
 pub mod Writes
 pub mod Links
+pub mod Drafts
 pub mod Laws
 pub mod inner

@@ -11,3 +11,4 @@ pub mod Held
 pub mod Moments
 pub mod Asking
 pub mod Linking
+pub mod Drafting

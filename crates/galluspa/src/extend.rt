@@ -181,7 +181,7 @@ fn extension(
 }
 
 /// Writes only the number of the bytes if there is no room for them, so that a caller knows how much is needed.
-fn put(bytes: &[u8], out: &mut [u8], out_count: &mut usize) -> u8
+pub(crate) fn put(bytes: &[u8], out: &mut [u8], out_count: &mut usize) -> u8
     ensures done { result ≡ DONE → (out_count.new ≤ length out.old) × (take out_count.new out.new ≡ bytes.now) }
     ensures no_room { result ≡ NO_ROOM → (out_count.new ≡ length bytes.now) × (length out.old < out_count.new) }
     ensures rest { drop out_count.new out.new ≡ drop out_count.new out.old }
