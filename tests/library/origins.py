@@ -5,6 +5,7 @@ from collections.abc import Iterator, Sequence
 from dataclasses import dataclass
 from random import Random
 
+from galluspa.formats.instructions import operands_of
 from tests.library.binding import WORDS, Input, Library, Link, Past, State, Words
 from tests.library.pasts import SPACING, Run
 from tests.library.searches import ADD_SUB, FLAGS, H, accessed, written
@@ -110,6 +111,13 @@ def sources(state: State, word: int | None) -> Iterator[Part]:
             yield REGISTER, FLAGS, 2
         if not word >> 30:
             yield REGISTER, c, ALL
+
+
+def compare_operands(word: int, origins: Sequence[Part]) -> None:
+    """Compares the origins of an operation with what the tools take for its operands: these name all flags if it uses only C."""
+    if word >> 31 == 0 and (word >> 16 & 15) <= DIV:
+        names = {"flags" if first == FLAGS else "H" if first == H else f"R{first}" for _, first, _ in origins}
+        expect(f"the operands of {word:08X}", names, set(operands_of(word)))
 
 
 def by_hand(own: Run, steps: Sequence[Step], memory: Sequence[int], part: Part, before: int) -> tuple[object, ...]:
@@ -246,6 +254,7 @@ def change_other_parts(library: Library) -> None:
             if state.stop or state.pc >= WORDS:
                 break
             kept = list(sources(state, words[state.pc]))
+            compare_operands(words[state.pc], kept)
             one, one_words = State.from_buffer_copy(state), type(words).from_buffer_copy(words)
             other, other_words = State.from_buffer_copy(state), type(words).from_buffer_copy(words)
             changed(other, other_words, kept, chance)
