@@ -13,3 +13,5 @@ mod Traces
 mod Counting
 mod CallsFollowed
 mod Drafts
+mod Events
+mod Checks

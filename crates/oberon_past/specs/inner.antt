@@ -3,3 +3,4 @@
 pub mod Kept
 pub mod Following
 pub mod Drafting
+pub mod Checking
