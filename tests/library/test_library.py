@@ -6,7 +6,7 @@ from pathlib import Path
 
 import pytest
 
-from tests.library import calls, counts, examples, followed, header, pasts, ranges, refusals, searches
+from tests.library import calls, checked, counts, examples, followed, header, pasts, ranges, refusals, searches
 from tests.library.binding import Library
 from tests.library.trial import EXAMPLES, TOP, WARNINGS, expect, run
 
@@ -37,6 +37,9 @@ TRIALS: Sequence[Callable[[Library], None]] = (
     pasts.refuse_past_searches,
     ranges.ask_ranges,
     ranges.refuse_ranges,
+    checked.check_pasts,
+    checked.check_small_steps,
+    checked.refuse_checks,
     calls.call_together,
     calls.read_together,
     calls.read_longest,

@@ -18,4 +18,5 @@ mod LooseValues
 mod MomentLemmas
 mod LiveLemmas
 mod LogLemmas
+mod CheckLemmas
 mod SealedValues

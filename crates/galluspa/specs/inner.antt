@@ -10,3 +10,4 @@ pub mod Following
 pub mod Held
 pub mod Moments
 pub mod Asking
+pub mod Checking
