@@ -13,8 +13,8 @@
  * Nothing else is asked of the caller: each number is tested, and one that is out of its range is refused.
  *
  * A function that writes an answer writes it to the front of the buffer, and leaves the bytes after it as they were. A call that is
- * refused writes nothing. There are four exceptions, each said where its function is declared: *out_count and *changed_count at
- * GALLUSPA_NO_ROOM, the two counts of galluspa_claims then, the records of galluspa_records at GALLUSPA_OUT_OF_MEMORY, and a
+ * refused writes nothing. There are four exceptions, each said where its function is declared: *out_count, *changed_count and *line_count
+ * at GALLUSPA_NO_ROOM, the two counts of galluspa_claims then, the records of galluspa_records at GALLUSPA_OUT_OF_MEMORY, and a
  * galluspa_past, which a refused galluspa_past_open, galluspa_past_begin or galluspa_past_branch closes. GALLUSPA_MORE, and
  * GALLUSPA_NO_ROOM of galluspa_past_run, refuse nothing: the call did a part, and writes what its declaration says.
  *
@@ -636,6 +636,35 @@ uint8_t galluspa_past_calls(galluspa_past *past, uint64_t *from, uint64_t to, ui
  * A call reads recording, and writes all of the longer one, so that a budget for many checkpoints is faster than one for each. */
 uint8_t galluspa_past_record(galluspa_past *past, const uint8_t *recording, size_t recording_len, const uint64_t *counts,
                              size_t counts_len, size_t *recorded, uint64_t budget, uint8_t *out, size_t out_len, size_t *out_count);
+
+/* How far the check of a recording by a past is: write galluspa_progress progress = {0} to begin, and pass on what the last call wrote. */
+typedef struct {
+    uint64_t count;      /* up to this count the bytes sent are compared */
+    uint64_t sent;       /* how many bytes were sent up to there since the checkpoint before */
+    uint32_t checkpoint; /* the checkpoints before this one are true; 0 if the check is to begin */
+    uint32_t differs;    /* not 0 if the bytes sent up to this checkpoint are not those that it claims; sent is not used then */
+} galluspa_progress;
+
+/* Checks a recording by a past of the same run, checkpoint by checkpoint: the one that was opened, or any other, such as one that was
+ * made of the past. It compares the recording's initial state, and its inputs before its last checkpoint, with those of the past, each
+ * time; inputs that the past has after that count do not matter. All that the past runs for the check is kept as keyframes.
+ *
+ * budget is how many instructions it may do to add keyframes up to the progress, and how many it may check from there on; beside these a
+ * call does at most some two spacings of instructions, also in a long stretch between two checkpoints. Returns GALLUSPA_DONE, and writes
+ * the verdict line of galluspa_check to line, its length to *line_count, and 0 to *status if the recording is accepted, or 1 if it is
+ * false; or GALLUSPA_MORE if the budget is spent, and writes *progress: a call with it goes on. Each such call adds a keyframe or comes
+ * further. At GALLUSPA_NO_ROOM it writes *line_count alone; a line of 255 bytes has room.
+ *
+ * The line is that of galluspa_check if *progress is zeros, or what a call for the same recording wrote: a progress says which
+ * checkpoints are true, and that is not tested again.
+ *
+ * Else it is GALLUSPA_CLOSED; GALLUSPA_OUT_OF_RANGE if budget is 0; GALLUSPA_NO_RECORDING; GALLUSPA_LATER if the last checkpoint is after
+ * the end; GALLUSPA_OUT_OF_RANGE if the recording is of another run, or *progress is not one of it: it has no such checkpoint, the count
+ * is not between that checkpoint's and the one before, or it claims fewer bytes; or GALLUSPA_OUT_OF_MEMORY (never for bytes that are not
+ * a valid recording). Then nothing is written. Each call reads the recording, as galluspa_claim does, and holds, beside what
+ * galluspa_past_at holds, at most as many bytes as a checkpoint claims to be sent. */
+uint8_t galluspa_past_check(galluspa_past *past, const uint8_t *recording, size_t recording_len, uint64_t budget,
+                            galluspa_progress *progress, uint8_t *line, size_t line_len, size_t *line_count, uint8_t *status);
 
 #ifdef __cplusplus
 }

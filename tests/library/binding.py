@@ -94,6 +94,15 @@ class Extent(ctypes.Structure):
     _fields_ = [(name, ctypes.c_uint64) for name in ("first", "end", "reached", "keyframes", "pages", "inputs")]
 
 
+class Progress(ctypes.Structure):
+    """How far a check by a past is."""
+
+    _fields_ = [
+        *((name, ctypes.c_uint64) for name in ("count", "sent")),
+        *((name, ctypes.c_uint32) for name in ("checkpoint", "differs")),
+    ]
+
+
 Inputs = Sequence[Input] | ctypes.Array[Input]
 
 
@@ -122,6 +131,7 @@ class Library:
             "hits",
             "records",
             "profile",
+            "check",
             "calls",
             "why",
         )
@@ -505,6 +515,22 @@ class Library:
         if code not in (0, 12) and (at.value, [bytes(it) for it in counts]) != (start, before):
             fail("a profile of a past that was refused writes something")
         return code, at.value
+
+    def check_past(
+        self, past: Past, text: bytes, progress: Progress, budget: int = 1 << 40, room: int = 255
+    ) -> tuple[int, tuple[bytes, int], int]:
+        """Returns the result of a check by a past, the line with its status, and the number of bytes of the line. Nothing else is to be
+        written, and nothing but the number if there is no room."""
+        before, line, count, status = bytes(progress), (ctypes.c_uint8 * 256)(), ctypes.c_size_t(77), ctypes.c_uint8(0xAA)
+        ctypes.memset(line, 0xAA, 256)
+        given = ctypes.byref(past), text, ctypes.c_size_t(len(text)), ctypes.c_uint64(budget), ctypes.byref(progress)
+        code = self.c.galluspa_past_check(*given, line, ctypes.c_size_t(room), ctypes.byref(count), ctypes.byref(status))
+        if code != 12 and bytes(progress) != before:
+            fail("a check by a past moves its progress")
+        number = 0 if code else count.value
+        if bytes(line[number:]).strip(b"\xaa") or (code and status.value != 0xAA) or (code not in (0, 2) and count.value != 77):
+            fail("a check by a past writes something else")
+        return code, (bytes(line[:number]), status.value), count.value
 
     def follow_past(
         self, past: Past, start: int, end: int, limit: int, present: Sequence[Call], rooms: tuple[int, int], budget: int = 1 << 40

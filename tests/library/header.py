@@ -26,6 +26,7 @@ SCALARS = {
     "RawPast": "galluspa_past",
     "RawExtent": "galluspa_extent",
     "RawLink": "galluspa_link",
+    "RawProgress": "galluspa_progress",
 }
 SIZES = {"u8": 1, "u16": 2, "u32": 4, "u64": 8}
 # The struct whose first field is private: a pointer, which only the library reads.
@@ -84,7 +85,7 @@ def exports() -> Iterator[tuple[str, list[tuple[str, str]], str]]:
 
 def fields_of(name: str) -> list[tuple[str, str]]:
     """Returns the fields of a struct of the crate, in order."""
-    files = ("raw.rt", "conditions.rt", "claims.rt", "records.rt", "calls.rt", "past.rt")
+    files = ("raw.rt", "conditions.rt", "claims.rt", "records.rt", "calls.rt", "past.rt", "past_check.rt")
     text = "".join((CRATE / "src" / file).read_text() for file in files)
     text += (CRATE / "src/link.rt").read_text() + (CRATE.parent / "risc_model/src/call.rt").read_text()
     body = group(rf"#\[repr\(C\)\]\n(?:#[^\n]*\n)*pub struct {name} {{\n(.*?)\n}}", text, re.S)

@@ -45,6 +45,8 @@ static uint64_t visits[GALLUSPA_WORDS], departures[GALLUSPA_WORDS];
 static galluspa_call open[9];
 static galluspa_turn turns[3];
 static galluspa_link origin;
+static galluspa_progress progress;
+static uint8_t line[256], status;
 
 static void fail(const char *what) {
     printf("%s, request %lu\n", what, refused);
@@ -57,6 +59,7 @@ static uint8_t call(int which, galluspa_past *past, size_t *count) {
     memset(sent, 0xAA, sizeof sent), memset(&hit, 0xAA, sizeof hit), memset(hits, 0xAA, sizeof hits);
     memset(records, 0xAA, sizeof records), memset(visits, 0xAA, sizeof visits), memset(departures, 0xAA, sizeof departures);
     memset(open, 0xAA, sizeof open), memset(turns, 0xAA, sizeof turns), memset(&origin, 0xAA, sizeof origin);
+    memset(&progress, 0, sizeof progress), memset(line, 0xAA, sizeof line), status = 0xAA;
     *count = 77;
     galluspa_past_extent(past, &extent);
     galluspa_condition store = {.kind = GALLUSPA_STORE, .from = 0, .end = 1 << 24};
@@ -77,6 +80,7 @@ static uint8_t call(int which, galluspa_past *past, size_t *count) {
     if (which == 9) return galluspa_past_records(past, &at, AT, UINT64_MAX, records, 3, count);
     if (which == 10) return galluspa_past_profile(past, &at, AT, UINT64_MAX, visits, GALLUSPA_WORDS, departures, GALLUSPA_WORDS);
     galluspa_part high = {.kind = GALLUSPA_REGISTER, .first = 16, .mask = UINT32_MAX};
+    if (which == 11) return galluspa_past_check(past, text, text_len, UINT64_MAX, &progress, line, sizeof line, count, &status);
     if (which == 12) return galluspa_past_why(past, &high, AT, UINT64_MAX, &origin, &at);
     size_t none = 0;
     return galluspa_past_calls(past, &at, AT, UINT32_MAX, UINT64_MAX, open, 9, &none, turns, 3, count);
@@ -104,7 +108,8 @@ static int answers(int which) {
     if (result && result != GALLUSPA_OUT_OF_MEMORY) fail("another answer");
     if (result && made < now) fail("no request was refused");
     if (result && (count != 77 || !is_kept(&state, sizeof state) || !is_kept(slots, sizeof slots) || !is_kept(pages, sizeof pages) || !is_kept(sent, sizeof sent) || !is_kept(&hit, sizeof hit) || !is_kept(hits, sizeof hits)
-        || !is_kept(records, sizeof records) || !is_kept(visits, sizeof visits) || !is_kept(departures, sizeof departures) || !is_kept(open, sizeof open) || !is_kept(turns, sizeof turns) || !is_kept(&origin, sizeof origin))) fail("something is written");
+        || !is_kept(records, sizeof records) || !is_kept(visits, sizeof visits) || !is_kept(departures, sizeof departures) || !is_kept(open, sizeof open) || !is_kept(turns, sizeof turns)
+        || !is_kept(&origin, sizeof origin) || !is_kept(line, sizeof line) || status != 0xAA || progress.checkpoint)) fail("something is written");
     galluspa_past_extent(&past, &is);
     if (which > 1 && result && (is.end != was.end || is.inputs != was.inputs)) fail("the past is another");
     if (branch.is_open != (which == 6 && !result)) fail("a branch is open, or not");
@@ -140,7 +145,7 @@ static void refuse_first(void) {
 }
 
 int main(int argc, char **argv) {
-    static const char *name[] = {"open", "begin", "at", "near", "input", "run", "branch", "find", "hits", "records", "profile", "calls", "why"};
+    static const char *name[] = {"open", "begin", "at", "near", "input", "run", "branch", "find", "hits", "records", "profile", "check", "why", "calls"};
     galluspa_past past = {0};
     FILE *file = argc > 1 ? fopen(argv[1], "rb") : NULL;
     if (!file) return 9;

@@ -6,7 +6,7 @@ from pathlib import Path
 
 import pytest
 
-from tests.library import calls, counts, examples, followed, header, origins, pasts, ranges, refusals, searches
+from tests.library import calls, checked, counts, examples, followed, header, origins, pasts, ranges, refusals, searches
 from tests.library.binding import Library
 from tests.library.trial import EXAMPLES, TOP, WARNINGS, expect, run
 
@@ -41,6 +41,9 @@ TRIALS: Sequence[Callable[[Library], None]] = (
     origins.refuse_questions,
     ranges.ask_ranges,
     ranges.refuse_ranges,
+    checked.check_pasts,
+    checked.check_small_steps,
+    checked.refuse_checks,
     calls.call_together,
     calls.read_together,
     calls.read_longest,

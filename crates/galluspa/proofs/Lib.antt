@@ -19,4 +19,5 @@ mod LooseValues
 mod MomentLemmas
 mod LiveLemmas
 mod LogLemmas
+mod CheckLemmas
 mod SealedValues

@@ -17,5 +17,6 @@ pub mod Searches
 pub mod Writes
 pub mod Links
 pub mod Drafts
+pub mod PastCheck
 pub mod Laws
 pub mod inner

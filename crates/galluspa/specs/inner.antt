@@ -12,3 +12,4 @@ pub mod Moments
 pub mod Asking
 pub mod Linking
 pub mod Drafting
+pub mod Checking

@@ -39,6 +39,7 @@ mod near;
 mod part;
 mod past;
 mod past_calls;
+mod past_check;
 mod past_find;
 mod past_hits;
 mod past_profile;
@@ -78,6 +79,7 @@ pub use past::{
     RawExtent, galluspa_past_begin, galluspa_past_close, galluspa_past_extent, galluspa_past_open,
 };
 pub use past_calls::galluspa_past_calls;
+pub use past_check::{RawProgress, galluspa_past_check};
 pub use past_find::galluspa_past_find;
 pub use past_hits::galluspa_past_hits;
 pub use past_profile::galluspa_past_profile;

@@ -15,3 +15,5 @@ mod Counting
 pub mod CallsFollowed
 mod Drafts
 mod Warming
+mod Events
+mod Checks

@@ -1,5 +1,5 @@
 -- The past of a run. Read it in this order: a run, a past, what it answers, how it changes, how it is recorded, what searches find in
--- it, who wrote a part last, from what, what its instructions do, how often each word is executed, its calls.
+-- it, who wrote a part last, from what, what its instructions do, how often each word is executed, its calls, the check of a recording.
 pub mod Run
 pub mod Past
 pub mod Live
@@ -11,4 +11,5 @@ pub mod Links
 pub mod Trace
 pub mod Profile
 pub mod Calls
+pub mod Check
 pub mod inner

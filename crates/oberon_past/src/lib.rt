@@ -7,6 +7,8 @@
 mod answer;
 mod called;
 mod calling;
+mod checked;
+mod checking;
 mod copying;
 mod draft;
 mod draft_fault;
@@ -36,6 +38,7 @@ mod writes;
 
 pub use answer::Answer;
 pub use called::{Called, Calls};
+pub use checked::{CheckFault, CheckProgress, Checked};
 pub use draft::{Draft, Drafted};
 pub use draft_fault::DraftFault;
 pub use extent::Extent;
