@@ -30,7 +30,7 @@ void __wrap_free(void *old) {
     __real_free(old);
 }
 
-enum { AT = 1000000, FROM = 200003, SPACING = 65536, FURTHER = 100000, CALLS = 12 };
+enum { AT = 1000000, FROM = 200003, SPACING = 65536, FURTHER = 100000, CALLS = 13 };
 static uint8_t text[1 << 20];
 static uint32_t words[GALLUSPA_WORDS];
 static galluspa_state first, state, own_state;
