@@ -6,7 +6,7 @@ from pathlib import Path
 
 import pytest
 
-from tests.library import calls, counts, examples, followed, header, pasts, ranges, refusals, searches
+from tests.library import calls, counts, drafts, examples, followed, header, pasts, ranges, refusals, searches, writes
 from tests.library.binding import Library
 from tests.library.trial import EXAMPLES, TOP, WARNINGS, expect, run
 
@@ -35,6 +35,12 @@ TRIALS: Sequence[Callable[[Library], None]] = (
     pasts.refuse_live_pasts,
     pasts.search_pasts,
     pasts.refuse_past_searches,
+    writes.ask_writes,
+    writes.late_writes,
+    writes.refuse_writes,
+    drafts.record_pasts,
+    drafts.record_live,
+    drafts.refuse_recordings,
     ranges.ask_ranges,
     ranges.refuse_ranges,
     calls.call_together,
