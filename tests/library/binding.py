@@ -38,6 +38,16 @@ class Hit(ctypes.Structure):
     _fields_ = [("count", ctypes.c_uint64), ("condition", ctypes.c_uint64)]
 
 
+class Part(ctypes.Structure):
+    """A part of a machine: its kind, the register, the address or the kind of input, and the mask."""
+
+    _fields_ = [(name, ctypes.c_uint32) for name in ("kind", "first", "mask")]
+
+
+class Write(ctypes.Structure):
+    _fields_ = [(name, ctypes.c_uint64) for name in ("count", "by", "input")]
+
+
 class Record(ctypes.Structure):
     _fields_ = [
         ("state", State),
@@ -129,6 +139,8 @@ class Library:
             "branch",
             "find",
             "hits",
+            "write",
+            "record",
             "records",
             "profile",
             "check",
@@ -489,6 +501,38 @@ class Library:
         if (code and bytes(link) != kept) or (code != 12 and progress.value != 79):
             fail("a question about where a value comes from writes something else than its answer")
         return code, None if code else link, progress.value
+
+    def write_in_past(
+        self, past: Past, part: tuple[int, int, int], changing: int, before: int, budget: int = 1 << 40
+    ) -> tuple[int, tuple[int, int, int] | None, int]:
+        """Returns the result of a question about the last write of a part, the write, and how far it came. Only these are to be written."""
+        write, progress = Write(77, 78, 79), ctypes.c_uint64(80)
+        asked = ctypes.byref(past), ctypes.byref(Part(*part)), ctypes.c_uint32(changing), ctypes.c_uint64(before)
+        code = self.c.galluspa_past_write(*asked, ctypes.c_uint64(budget), ctypes.byref(write), ctypes.byref(progress))
+        found = write.count, write.by, write.input
+        if (code and found != (77, 78, 79)) or (code != 12 and progress.value != 80):
+            fail("a question about a write writes something else than its answer")
+        return code, None if code else found, progress.value
+
+    def record_past(
+        self, past: Past, text: bytes, counts: Sequence[int], recorded: int = 0, budget: int = 1 << 40, room: int = 1 << 21
+    ) -> tuple[int, bytes, int, int]:
+        """Returns the result of recording a past, the recording, how many of the counts are recorded, and the number of bytes. Nothing
+        else is to be written, and only that number if there is too little room."""
+        if room > len(self.buffer):
+            self.buffer = ctypes.create_string_buffer(room)
+        out, size = self.buffer, ctypes.c_size_t
+        number, made = size(77), size(recorded)
+        ctypes.memset(out, 0xAA, room)
+        given = ctypes.byref(past), text, size(len(text)), (ctypes.c_uint64 * len(counts))(*counts), size(len(counts))
+        rest = ctypes.byref(made), ctypes.c_uint64(budget), out, size(room), ctypes.byref(number)
+        code = self.c.galluspa_past_record(*given, *rest)
+        length = number.value if code in (0, 12) else 0
+        if ctypes.string_at(ctypes.byref(out, length), room - length) != b"\xaa" * (room - length):
+            fail("a past that is recorded writes something else than its recording")
+        if code not in (0, 12) and (made.value != recorded or (code != 2 and number.value != 77)):
+            fail("a past whose recording is refused writes something")
+        return code, ctypes.string_at(out, length), made.value, number.value
 
     def records_in_past(self, past: Past, start: int, end: int, room: int, budget: int = 1 << 40) -> tuple[int, list[Record], int]:
         """Returns the result of recording a range of a past, the records, and where to go on. Nothing else is to be written."""

@@ -18,6 +18,8 @@ SCALARS = {
     "RawInput": "galluspa_input",
     "RawCondition": "galluspa_condition",
     "RawHit": "galluspa_hit",
+    "RawPart": "galluspa_part",
+    "RawWrite": "galluspa_write",
     "RawPage": "galluspa_page",
     "RawCheckpoint": "galluspa_checkpoint",
     "RawRecord": "galluspa_trace_record",
@@ -85,7 +87,7 @@ def exports() -> Iterator[tuple[str, list[tuple[str, str]], str]]:
 
 def fields_of(name: str) -> list[tuple[str, str]]:
     """Returns the fields of a struct of the crate, in order."""
-    files = ("raw.rt", "conditions.rt", "claims.rt", "records.rt", "calls.rt", "past.rt", "past_check.rt")
+    files = ("raw.rt", "conditions.rt", "claims.rt", "records.rt", "calls.rt", "past.rt", "past_check.rt", "part.rt")
     text = "".join((CRATE / "src" / file).read_text() for file in files)
     text += (CRATE / "src/link.rt").read_text() + (CRATE.parent / "risc_model/src/call.rt").read_text()
     body = group(rf"#\[repr\(C\)\]\n(?:#[^\n]*\n)*pub struct {name} {{\n(.*?)\n}}", text, re.S)
@@ -122,7 +124,8 @@ def constants() -> Iterator[tuple[str, int]]:
         value = group(rf"^pub const {own}: \w+ = ([\d_]+);$", (TOP / "crates" / file).read_text())
         yield f"GALLUSPA_{name}", int(value.replace("_", ""))
     text = (CRATE / "src/conditions.rt").read_text()
-    yield from ((f"GALLUSPA_{name}", kind) for name, kind in kinds(text))
+    parts = (CRATE / "src/part.rt").read_text()
+    yield from ((f"GALLUSPA_{name}", kind) for name, kind in (*kinds(text, "Condition"), *kinds(parts, "Part")))
     yield "GALLUSPA_AND", 1 << int(group(r"^pub const JOINED: u32 = 1 << (\d+);$", text))
     group(r"^pub const (NO_COUNT): u64 = u64::MAX;$", (CRATE / "src/moments.rt").read_text())
     yield "GALLUSPA_NO_COUNT", (1 << 64) - 1
@@ -131,13 +134,13 @@ def constants() -> Iterator[tuple[str, int]]:
     yield from (("GALLUSPA_FIRST", int(first)), ("GALLUSPA_LAST", int(last)))
 
 
-def kinds(text: str) -> Iterator[tuple[str, int]]:
-    """Yields the kinds of conditions, as the crate reads their numbers: a condition, or a function that makes one, in an arm of its
-    own."""
-    body = group(r"^fn condition_of\(.*?^    match raw\.kind % JOINED {\n(.*?)^    }", text, re.M | re.S)
+def kinds(text: str, of: str) -> Iterator[tuple[str, int]]:
+    """Yields the kinds of conditions, or of parts, as the crate reads their numbers: a condition, or a function that makes one, in an arm
+    of its own."""
+    body = group(rf"fn {of.lower()}_of\(.*?^    match raw\.kind(?: % JOINED)? {{\n(.*?)^    }}", text, re.M | re.S)
     for kind, arm in re.findall(r"^        (\d+)\b(.*?)(?=^        \w)", body, re.M | re.S):
-        made = re.search(r"Condition::(\w+)", arm) or re.search(r"=> (\w+)\(", arm) or fail(f"kind {kind} makes nothing")
-        name = group(rf"^fn {made[1]}\(.*?Condition::(\w+)", text, re.M | re.S) if made[1].islower() else made[1]
+        made = re.search(rf"{of}::(\w+)", arm) or re.search(r"=> (\w+)\(", arm) or fail(f"kind {kind} makes nothing")
+        name = group(rf"^fn {made[1]}\(.*?{of}::(\w+)", text, re.M | re.S) if made[1].islower() else made[1]
         yield re.sub(r"(?<=[a-z])(?=[A-Z])", "_", name).upper(), int(kind)
 
 
@@ -212,6 +215,8 @@ def compare_header(folder: Path) -> list[str]:
         ("NO_COUNT UINT64_MAX", "NO_COUNT UINT32_MAX"),
         ("    uint64_t is_open; ", "    uint32_t is_open; "),
         ("    uint64_t reached; ", "    uint64_t came_to; "),
+        ("GALLUSPA_LEDS = 3", "GALLUSPA_LEDS = 6"),
+        ("    uint64_t input; ", "    uint32_t input; "),
         ("uint16_t slots[1024]", "uint32_t slots[1024]"),
         ("uint16_t slots[1024]", "uint16_t slots[1023]"),
         ("galluspa_past *past, uint64_t at, uint64_t from", "galluspa_past *past, uint64_t at, uint32_t from"),
@@ -224,7 +229,7 @@ def compare_header(folder: Path) -> list[str]:
         ),
     ]
     kinds_of = list(declared_constants())
-    kinds_of = kinds_of[kinds_of.index("GALLUSPA_COUNTER") : kinds_of.index("GALLUSPA_IS_WORD") + 1]
+    kinds_of = kinds_of[kinds_of.index("GALLUSPA_COUNTER") : kinds_of.index("GALLUSPA_WRITES_FLAGS") + 1]
     swaps = [
         ("uint32_t h; ", "uint32_t pc; "),
         ("uint32_t leds; ", "uint32_t mouse; "),

@@ -8,7 +8,7 @@ from random import Random
 from galluspa.formats.instructions import operands_of
 from tests.library.binding import WORDS, Input, Library, Link, Past, State, Words
 from tests.library.pasts import SPACING, Run
-from tests.library.searches import ADD_SUB, FLAGS, H, accessed, written
+from tests.library.searches import ADD, FLAGS, H, SUB, accessed, written
 from tests.library.trial import FACE, PROGRAM, expect, fail, run
 from tests.programs import randomly
 
@@ -58,7 +58,7 @@ def machine_steps(library: Library, own: Run, end: int) -> tuple[list[Step], lis
 
 def is_sum(word: int) -> bool:
     """Returns whether an instruction is a sum or a difference."""
-    return word >> 31 == 0 and word >> 16 & 15 in ADD_SUB
+    return word >> 31 == 0 and word >> 16 & 15 in (ADD, SUB)
 
 
 def bits_written(step: Step, part: Part) -> int:
@@ -107,7 +107,7 @@ def sources(state: State, word: int | None) -> Iterator[Part]:
             yield (REGISTER, c, ALL) if not u else (REGISTER, FLAGS, 15) if v else (REGISTER, H, ALL)
     elif op <= DIV:
         yield REGISTER, b, ALL
-        if u and op in ADD_SUB:
+        if u and op in (ADD, SUB):
             yield REGISTER, FLAGS, 2
         if not word >> 30:
             yield REGISTER, c, ALL

@@ -30,7 +30,7 @@ void __wrap_free(void *old) {
     __real_free(old);
 }
 
-enum { AT = 1000000, FROM = 200003, SPACING = 65536, FURTHER = 100000, CALLS = 13 };
+enum { AT = 1000000, FROM = 200003, SPACING = 65536, FURTHER = 100000, CALLS = 15 };
 static uint8_t text[1 << 20];
 static uint32_t words[GALLUSPA_WORDS];
 static galluspa_state first, state, own_state;
@@ -47,6 +47,8 @@ static galluspa_turn turns[3];
 static galluspa_link origin;
 static galluspa_progress progress;
 static uint8_t line[256], status;
+static galluspa_write written;
+static uint8_t recorded[1 << 21];
 
 static void fail(const char *what) {
     printf("%s, request %lu\n", what, refused);
@@ -60,6 +62,7 @@ static uint8_t call(int which, galluspa_past *past, size_t *count) {
     memset(records, 0xAA, sizeof records), memset(visits, 0xAA, sizeof visits), memset(departures, 0xAA, sizeof departures);
     memset(open, 0xAA, sizeof open), memset(turns, 0xAA, sizeof turns), memset(&origin, 0xAA, sizeof origin);
     memset(&progress, 0, sizeof progress), memset(line, 0xAA, sizeof line), status = 0xAA;
+    memset(&written, 0xAA, sizeof written), memset(recorded, 0xAA, sizeof recorded);
     *count = 77;
     galluspa_past_extent(past, &extent);
     galluspa_condition store = {.kind = GALLUSPA_STORE, .from = 0, .end = 1 << 24};
@@ -83,6 +86,11 @@ static uint8_t call(int which, galluspa_past *past, size_t *count) {
     if (which == 11) return galluspa_past_check(past, text, text_len, UINT64_MAX, &progress, line, sizeof line, count, &status);
     if (which == 12) return galluspa_past_why(past, &high, AT, UINT64_MAX, &origin, &at);
     size_t none = 0;
+    if (which == 13) return galluspa_past_write(past, &(galluspa_part){GALLUSPA_REGISTER, 3, 1}, 1, AT, UINT64_MAX, &written, &at);
+    if (which == 14) {
+        uint64_t counts[] = {FROM, AT};
+        return galluspa_past_record(past, sent, 0, counts, 2, &none, UINT64_MAX, recorded, sizeof recorded, count);
+    }
     return galluspa_past_calls(past, &at, AT, UINT32_MAX, UINT64_MAX, open, 9, &none, turns, 3, count);
 }
 
@@ -109,7 +117,8 @@ static int answers(int which) {
     if (result && made < now) fail("no request was refused");
     if (result && (count != 77 || !is_kept(&state, sizeof state) || !is_kept(slots, sizeof slots) || !is_kept(pages, sizeof pages) || !is_kept(sent, sizeof sent) || !is_kept(&hit, sizeof hit) || !is_kept(hits, sizeof hits)
         || !is_kept(records, sizeof records) || !is_kept(visits, sizeof visits) || !is_kept(departures, sizeof departures) || !is_kept(open, sizeof open) || !is_kept(turns, sizeof turns)
-        || !is_kept(&origin, sizeof origin) || !is_kept(line, sizeof line) || status != 0xAA || progress.checkpoint)) fail("something is written");
+        || !is_kept(&origin, sizeof origin) || !is_kept(line, sizeof line) || status != 0xAA || progress.checkpoint
+        || !is_kept(&written, sizeof written) || !is_kept(recorded, sizeof recorded))) fail("something is written");
     galluspa_past_extent(&past, &is);
     if (which > 1 && result && (is.end != was.end || is.inputs != was.inputs)) fail("the past is another");
     if (branch.is_open != (which == 6 && !result)) fail("a branch is open, or not");
@@ -137,6 +146,13 @@ static void refuse_first(void) {
         calls = 0;
         if (galluspa_past_input(&past, &early, 1) != GALLUSPA_OUT_OF_RANGE) fail("an input before the end");
         if (galluspa_past_run(&past, was.end - 1, 1, sent, sizeof sent, &count) != GALLUSPA_OUT_OF_RANGE) fail("a run back");
+        uint64_t at = 77, late = was.end + 1;
+        size_t none = 0;
+        if (galluspa_past_write(&past, &(galluspa_part){GALLUSPA_REGISTER, 3, 0}, 0, was.end, 1, &written, &at) != GALLUSPA_OUT_OF_RANGE)
+            fail("a part without bits");
+        if (galluspa_past_record(&past, sent, 1, &late, 1, &none, 1, recorded, sizeof recorded, &count) != GALLUSPA_LATER) fail("a late count");
+        if (galluspa_past_record(&past, sent, 1, &late, 0, &none, 1, recorded, sizeof recorded, &count) != GALLUSPA_NO_RECORDING)
+            fail("a recording that is none");
         galluspa_past_extent(&past, &is);
         if (calls || memcmp(&was, &is, sizeof is)) fail("what is out of range changes something");
     }
@@ -145,7 +161,7 @@ static void refuse_first(void) {
 }
 
 int main(int argc, char **argv) {
-    static const char *name[] = {"open", "begin", "at", "near", "input", "run", "branch", "find", "hits", "records", "profile", "check", "why", "calls"};
+    static const char *name[] = {"open", "begin", "at", "near", "input", "run", "branch", "find", "hits", "records", "profile", "check", "why", "write", "record", "calls"};
     galluspa_past past = {0};
     FILE *file = argc > 1 ? fopen(argv[1], "rb") : NULL;
     if (!file) return 9;

@@ -14,8 +14,7 @@ from tests.programs import randomly
 Memory = Words | memoryview
 MASK = 0xFFFFFFFF
 H, FLAGS = 16, 17
-MUL, DIV = 10, 11
-ADD_SUB = 8, 9
+ADD, SUB, MUL, DIV = 8, 9, 10, 11
 # What is added to the kind of a condition that is joined to the next one.
 AND = 1 << 31
 # How many lists of joined conditions are sought in each run; and the random programs, and how many of their steps are examined.
@@ -59,6 +58,14 @@ def written(state: State, words: Memory) -> set[int]:
     return {word >> 24 & 15, FLAGS} | ({H} if word >> 16 & 15 in (MUL, DIV) else set())
 
 
+def written_flags(state: State, words: Memory) -> int:
+    """Returns the flags that the next instruction writes if it does not stop the machine: N is 8, Z 4, C 2 and V 1."""
+    if FLAGS not in written(state, words):
+        return 0
+    word = words[state.pc]
+    return 15 if word >> 31 == 0 and word >> 16 & 15 in (ADD, SUB) else 12
+
+
 def is_from_to(value: int, least: int, most: int) -> bool:
     """Returns whether a value is one of a range that goes round."""
     return value - least & MASK <= most - least & MASK
@@ -85,6 +92,8 @@ def holds(
         10: lambda: not after.stop and first in written(before, memory),
         11: lambda: not before.stop and is_from_to(register(before, first), least, most),
         12: lambda: not before.stop and is_from_to(memory[first >> 2] & value, least, most),
+        13: lambda: (register(before, first) ^ register(after, first)) & value,
+        14: lambda: not after.stop and written_flags(before, memory) & value,
     }[kind]())  # fmt: skip
 
 
@@ -112,6 +121,8 @@ def some_conditions(states: Sequence[State], memories: Sequence[Memory]) -> Iter
         yield [(11, number, 0, 0, values[-1], values[-1])]
         bits = 15 if number == FLAGS else MASK
         yield [(11, number, 0, 0, values[0] + 1 & bits, values[0] - 1 & bits)]
+        yield from ([(13, number, 0, mask)] for mask in (bits, 1, 0x80000008 & bits))
+    yield from ([(14, 0, 0, mask)] for mask in (1, 2, 4, 8, 15))
     yield from ([(7, 0, 0, byte)] for byte in b"Hl")
     yield [(9, 0, 0, 0), (6, 0, 0, 0), (1, pcs[-1], pcs[-1] + 1, 0), (1, pcs[0], 1 << 22, 0)]
 
@@ -250,13 +261,14 @@ def refuse_searches(library: Library) -> None:
     sends = (6, 0, 0, 0)
     also = (6 + AND, 0, 0, 0)
     bad: list[tuple[list[Sought], int]] = [
-        ([(0, 0, 1, 0)], 0), ([(13, 0, 1, 0)], 0), ([(1, 5, 5, 0)], 0), ([(1, 0, (1 << 22) + 1, 0)], 0), ([(2, 0, (1 << 24) + 1, 0)], 0),
+        ([(0, 0, 1, 0)], 0), ([(15, 0, 1, 1)], 0), ([(1, 5, 5, 0)], 0), ([(1, 0, (1 << 22) + 1, 0)], 0), ([(2, 0, (1 << 24) + 1, 0)], 0),
         ([(3, 0, (1 << 20) + 1, 0)], 0), ([(5, 18, 0, 0)], 0), ([(5, 17, 0, 16)], 0), ([(7, 0, 0, 256)], 0), ([(8, 0, 0, 0)], 0),
         ([(8, 0, 0, 7)], 0), ([sends, (0, 0, 0, 0)], 0), ([], 2), ([sends] * 65, 0), ([(9, 0, 0, 0)] * 65, 1),
         ([(3, 0, 4, 0)], 0), ([(10, 18, 0, 0)], 0), ([(11, 18, 0, 0)], 0), ([(11, 17, 0, 0, 16, 3)], 0), ([(11, 17, 0, 0, 3, 16)], 0),
         ([(12, 2, 0, 1)], 0), ([(12, 1 << 20, 0, 1)], 0), ([(12, 4, 0, 0)], 0), ([also], 0), ([sends, also], 1),
         ([also, also, also, also, sends], 0), ([sends, also, also, also, also, sends], 0), ([(AND, 0, 0, 0), sends], 0),
-        ([(13 + AND, 0, 0, 0), sends], 0),
+        ([(15 + AND, 0, 0, 1), sends], 0), ([(13, 0, 1, 0)], 0), ([(13, 18, 0, 1)], 0), ([(13, 17, 0, 16)], 0),
+        ([(14, 0, 0, 0)], 0), ([(14, 0, 0, 16)], 0), ([(14, 0, 0, 1 << 31)], 0),
     ]  # fmt: skip
     for conditions, which in bad:
         expect(f"a search for {conditions}, {which}", library.find(*ran.machine(0), ran.events, 10, conditions, which)[0], 1)

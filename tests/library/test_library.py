@@ -6,7 +6,7 @@ from pathlib import Path
 
 import pytest
 
-from tests.library import calls, checked, counts, examples, followed, header, origins, pasts, ranges, refusals, searches
+from tests.library import calls, checked, counts, drafts, examples, followed, header, origins, pasts, ranges, refusals, searches, writes
 from tests.library.binding import Library
 from tests.library.trial import EXAMPLES, TOP, WARNINGS, expect, run
 
@@ -39,6 +39,12 @@ TRIALS: Sequence[Callable[[Library], None]] = (
     origins.spend_budgets,
     origins.change_other_parts,
     origins.refuse_questions,
+    writes.ask_writes,
+    writes.late_writes,
+    writes.refuse_writes,
+    drafts.record_pasts,
+    drafts.record_live,
+    drafts.refuse_recordings,
     ranges.ask_ranges,
     ranges.refuse_ranges,
     checked.check_pasts,
