@@ -1,3 +1,4 @@
 pub mod ListLemmas
 pub mod CardLemmas
 pub mod TransferLemmas
+mod Examples
