@@ -25,6 +25,7 @@ SCALARS = {
     "RawTurn": "galluspa_turn",
     "RawPast": "galluspa_past",
     "RawExtent": "galluspa_extent",
+    "Card": "galluspa_card",
 }
 SIZES = {"u8": 1, "u16": 2, "u32": 4, "u64": 8}
 # The struct whose first field is private: a pointer, which only the library reads.
@@ -85,7 +86,7 @@ def fields_of(name: str) -> list[tuple[str, str]]:
     """Returns the fields of a struct of the crate, in order."""
     files = ("raw.rt", "conditions.rt", "claims.rt", "records.rt", "calls.rt", "past.rt")
     text = "".join((CRATE / "src" / file).read_text() for file in files)
-    text += (CRATE.parent / "risc_model/src/call.rt").read_text()
+    text += "".join((CRATE.parent / file).read_text() for file in ("risc_model/src/call.rt", "oberon_card/src/card.rt"))
     body = group(rf"#\[repr\(C\)\]\n(?:#[^\n]*\n)*pub struct {name} {{\n(.*?)\n}}", text, re.S)
     return re.findall(r"^    pub (\w+): (.*),$", body, re.M)
 
