@@ -1,5 +1,5 @@
 /* Galluspa for C: checks, records and migrates recordings of the RISC5 workstation, runs the proved emulator, searches a run,
- * counts its instructions, follows its calls, keeps its past, and makes a recording while an emulator runs.
+ * counts its instructions, follows its calls, keeps its past, makes a recording while an emulator runs, and is an SD card for one.
  *
  * Each function but those of a galluspa_past works on the caller's buffers and keeps nothing, so nothing has to be freed, and threads
  * may call at the same time. A galluspa_past, at the end of this header, is a handle: it is opened, asked, and closed. The caller
@@ -10,7 +10,7 @@
  *   - during the call, no other thread writes a buffer of the call, or reads one that the call writes;
  *   - a buffer that a call writes overlaps no other buffer of the call; buffers that it only reads may overlap.
  *
- * Nothing else is asked of the caller: each number is tested, and one that is out of its range is refused.
+ * Nothing else is asked of the caller: each number is tested, and one that is out of its range is refused. A galluspa_card takes any.
  *
  * A function that writes an answer writes it to the front of the buffer, and leaves the bytes after it as they were. A call that is
  * refused writes nothing. There are four exceptions, each said where its function is declared: *out_count, *changed_count and *line_count
@@ -665,6 +665,42 @@ typedef struct {
  * galluspa_past_at holds, at most as many bytes as a checkpoint claims to be sent. */
 uint8_t galluspa_past_check(galluspa_past *past, const uint8_t *recording, size_t recording_len, uint64_t budget,
                             galluspa_progress *progress, uint8_t *line, size_t line_len, size_t *line_count, uint8_t *status);
+
+/* ---- An SD card ----
+ *
+ * A system of Project Oberon (2013) has its disk on an SD card, over SPI: a write to device word 4 is a transfer, under what was written
+ * to word 5 last, and word 4 reads what the card answered, which is an input of kind 6. A galluspa_card is such a card over an image of
+ * 512-byte blocks that the caller keeps. Give it each write to word 4, at its count, and make an answer that differs from the one before
+ * an input of the next count.
+ *
+ * All zeros but for first and blocks is a card that was just powered: set these two, and nothing else. Any bytes are a card; a number
+ * above its limit counts as the limit. A copy of it is a card, too, so a host can try what it would answer. */
+typedef struct {
+    uint32_t first;         /* the number of the image's first block: 0, or 0x80002 for an image that begins with the file system */
+    uint32_t blocks;        /* how many blocks the image has; a command for another block is answered with an error */
+    uint32_t write_wanted;  /* not 0 if you are to write block to the image, first of all */
+    uint32_t write_number;  /* the number of the block that is to be written */
+    uint32_t read_wanted;   /* not 0 if you are to read a block of the image into block */
+    uint32_t read_number;   /* the number of the block that is to be read */
+    uint8_t block[512];     /* the block that was read, or is to be written */
+    uint32_t command_count; /* from here on it is the card's own. How many bytes of a command came: at most 5 */
+    uint32_t application;   /* not 0 if command 55 came just before */
+    uint32_t reply_left;    /* how many bytes at the end of reply it is going to answer: at most 6 */
+    uint32_t block_left;    /* how many bytes at the end of block it is going to answer after them: at most 512 */
+    uint32_t awaited;       /* not 0 if it waits for the token before a block that is to be written */
+    uint32_t target;        /* the number of that block */
+    uint32_t packet_left;   /* how many bytes of that block and of its checksum are still to come: at most 514 */
+    uint8_t command[6];     /* the bytes of a command that came */
+    uint8_t reply[6];       /* the reply to a command */
+    uint8_t packet[514];    /* the bytes of a block that is to be written, and of its checksum, that came */
+} galluspa_card;
+
+/* Does what a write of value to device word 4 does, after one of control to device word 5, and returns what word 4 reads from then on: a
+ * byte, or with bit 2 of control four, the lowest first; 255 if bit 0 of control does not select the card. Afterwards look at
+ * write_wanted and read_wanted, in this order, and do what they say before the next call; else a block that is to be written is lost, and
+ * one that is read is what block has. Both numbers are of blocks that the image has, so subtract first from them. Any numbers and any
+ * bytes of *card are taken, and nothing is allocated. */
+uint32_t galluspa_card_transfer(galluspa_card *card, uint32_t control, uint32_t value);
 
 #ifdef __cplusplus
 }

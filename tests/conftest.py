@@ -50,8 +50,11 @@ def shared_library() -> Path:
 
 
 def pytest_addoption(parser: pytest.Parser) -> None:
-    """The option of `tests/run page`."""
+    """The options of `tests/run page` and `tests/run library`."""
     parser.addoption("--module", metavar="FILE", help="the page is built around a module that is there, as web/build does")
+    parser.addoption(
+        "--cards", metavar="N", type=int, default=10, help="SD cards that are compared, over 1,000 transfers each (10)"
+    )
 
 
 @pytest.hookimpl(tryfirst=True)

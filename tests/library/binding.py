@@ -84,19 +84,13 @@ class Past(ctypes.Structure):
     _fields_ = [("past", ctypes.c_void_p), ("is_open", ctypes.c_uint64)]
 
 
-class Asked(ctypes.Structure):
-    """A part of a machine that a past is asked about."""
-
-    _fields_ = [(name, ctypes.c_uint32) for name in ("kind", "first", "mask")]
-
-
 class Link(ctypes.Structure):
     """Where the value of a part comes from."""
 
     _fields_ = [
         *((name, ctypes.c_uint64) for name in ("count", "input")),
         *((name, ctypes.c_uint32) for name in ("how", "value", "pc", "has_word", "word", "bits", "origins_count")),
-        ("origins", Asked * 3),
+        ("origins", Part * 3),
     ]
 
 
@@ -496,7 +490,7 @@ class Library:
         link, progress = Link(), ctypes.c_uint64(79)
         ctypes.memset(ctypes.byref(link), 0xAA, ctypes.sizeof(link))
         kept = bytes(link)
-        asked = ctypes.byref(past), ctypes.byref(Asked(*part)), ctypes.c_uint64(before), ctypes.c_uint64(budget)
+        asked = ctypes.byref(past), ctypes.byref(Part(*part)), ctypes.c_uint64(before), ctypes.c_uint64(budget)
         code = self.c.galluspa_past_why(*asked, ctypes.byref(link), ctypes.byref(progress))
         if (code and bytes(link) != kept) or (code != 12 and progress.value != 79):
             fail("a question about where a value comes from writes something else than its answer")

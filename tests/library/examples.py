@@ -45,6 +45,16 @@ def lockstep(folder: Path, flags: Sequence[str]) -> None:
     print(f"lockstep: the same on 5 recordings and 200 programs; a wrong ANN found in {found} of 40 programs, and named each time")
 
 
+def compare_cards(folder: Path, flags: Sequence[str], cards: int) -> None:
+    """The library's card answers what that of examples/c does, and reads and writes the same blocks."""
+    source = [*WARNINGS, str(TOP / "tests/library/card.c"), f"-I{EXAMPLES}/c"]
+    expect("card.c", run("cc", *source, *flags, "-o", f"{folder}/card"), (b"", 0))
+    output, status = run(f"{folder}/card", str(cards), "1000")
+    if status or not output.startswith(f"{cards} cards agree over 1000 transfers each".encode()):
+        fail(f"card: status {status}, {output!r:.400}")
+    print(output.decode(), end="")
+
+
 def walk(folder: Path, built: Path) -> None:
     """The commands of docs/from-c.md print what it shows."""
     room = folder / "walk"
@@ -54,7 +64,7 @@ def walk(folder: Path, built: Path) -> None:
     (room / "out").symlink_to(built)
     environment = {
         **os.environ,
-        "PATH": f"{PROGRAM.parent}:{os.environ['PATH']}",
+        "PATH": f"{TOP}:{PROGRAM.parent}:{os.environ['PATH']}",
         "GALLUSPA_LIBRARY": str(built / "lib/libgalluspa.so"),
         "PYTHONDONTWRITEBYTECODE": "1",
     }

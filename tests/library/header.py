@@ -29,6 +29,7 @@ SCALARS = {
     "RawExtent": "galluspa_extent",
     "RawLink": "galluspa_link",
     "RawProgress": "galluspa_progress",
+    "Card": "galluspa_card",
 }
 SIZES = {"u8": 1, "u16": 2, "u32": 4, "u64": 8}
 # The struct whose first field is private: a pointer, which only the library reads.
@@ -89,7 +90,8 @@ def fields_of(name: str) -> list[tuple[str, str]]:
     """Returns the fields of a struct of the crate, in order."""
     files = ("raw.rt", "conditions.rt", "claims.rt", "records.rt", "calls.rt", "past.rt", "past_check.rt", "part.rt")
     text = "".join((CRATE / "src" / file).read_text() for file in files)
-    text += (CRATE / "src/link.rt").read_text() + (CRATE.parent / "risc_model/src/call.rt").read_text()
+    text += (CRATE / "src/link.rt").read_text()
+    text += "".join((CRATE.parent / file).read_text() for file in ("risc_model/src/call.rt", "oberon_card/src/card.rt"))
     body = group(rf"#\[repr\(C\)\]\n(?:#[^\n]*\n)*pub struct {name} {{\n(.*?)\n}}", text, re.S)
     return re.findall(r"^    pub (\w+): (.*),$", body, re.M)
 

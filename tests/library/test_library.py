@@ -113,6 +113,11 @@ def test_lockstep(flags: Sequence[str], tmp_path: Path) -> None:
     examples.lockstep(tmp_path, flags)
 
 
+def test_cards(flags: Sequence[str], tmp_path: Path, pytestconfig: pytest.Config) -> None:
+    """The SD card answers what the one in C does."""
+    examples.compare_cards(tmp_path, flags, pytestconfig.getoption("--cards"))
+
+
 def test_document(installed: Path, tmp_path: Path) -> None:
     """The commands of docs/from-c.md print what it shows."""
     examples.walk(tmp_path, installed)

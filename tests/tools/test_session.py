@@ -3,6 +3,7 @@
 import json
 import struct
 
+from galluspa.formats.cardimages import DIRECTORY
 from galluspa.formats.recording import page_of
 from tests.tools.samples import EXAMPLES, JUMP, PROGRAM, ToolTest, claim, encoded, record, run, session, tool
 
@@ -43,6 +44,38 @@ class SessionTest(ToolTest):
             made = json.loads(tool("session", "--memory", image, "--at", at, "--every", 10, "--until", 35).output)
             self.assertEqual(made["pages"][0], {"at": place, "hex": content})
             self.assertEqual(made["checkpoints"], [10, 20, 30])
+
+    def test_a_card_is_loaded_as_the_boot_loader_does(self) -> None:
+        """The boot area, of three blocks, is loaded up to the block with its limit; two words of it are replaced."""
+        boot_area = bytearray(bytes(range(256)) * 6)
+        struct.pack_into("<I", boot_area, 16, 1025)
+        system = struct.pack("<I", DIRECTORY).ljust(1024, b"x") + boot_area + bytes(512)
+        loaded = bytearray(boot_area)
+        struct.pack_into("<I", loaded, 12, 0xE7EF0)
+        struct.pack_into("<I", loaded, 24, 0x80000)
+        image, whole = self.file("system.img", system), self.file("card.img", b"")
+        with whole.open("wb") as file:
+            file.seek(512 * 0x80002)
+            file.write(system)
+        for card in (image, whole):
+            ran = tool("session", "--card", card, "--checkpoints", "1")
+            self.assertEqual((ran.status, ran.errors), (0, ""))
+            made = json.loads(ran.output)
+            self.assertEqual(made["start"], {"R": [*[0] * 12, 0x20, 0, 0x80000, 0], "H": 0, "PC": 0, "flags": 0})
+            pages = {it["at"]: bytes.fromhex(it["hex"]).ljust(1024, b"\0") for it in made["pages"]}
+            self.assertEqual(pages[0] + pages[1], bytes(loaded).ljust(2048, b"\0"))
+
+    def test_a_card_of_another_kind_is_refused(self) -> None:
+        directory = struct.pack("<I", DIRECTORY).ljust(1024, b"x")
+        for image, why in (
+            (b"abcd", "found 64636261 at byte 0 and no bytes at byte 268,436,480"),
+            (directory, "at byte 1,040, has to be 28 to 1,048,576: the image ends before it"),
+            (directory + bytes(512), "at byte 1,040, has to be 28 to 1,048,576: it is 0"),
+            (directory + struct.pack("<5I", 0, 0, 0, 0, 600), "has 600 bytes from byte 1,024 on, and the image 20 of them"),
+        ):
+            ran = tool("session", "--card", self.file("card.img", image), "--checkpoints", "1")
+            self.assertEqual((ran.status, ran.output), (2, b""))
+            self.assertIn(why, ran.errors)
 
     def test_of_a_recording_comes_its_session(self) -> None:
         for name in ("hello", "keys", "face"):

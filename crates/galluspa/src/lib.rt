@@ -1,5 +1,5 @@
 //! Galluspa as a static library for C: it checks, records and migrates recordings, reads what a checkpoint claims, advances a
-//! machine, searches its run, counts its instructions, keeps its past, and makes a recording while a machine runs.
+//! machine, searches its run, counts its instructions, keeps its past, makes a recording while a machine runs, and is an SD card.
 //! `include/galluspa.h` declares its functions, and `docs/from-c.md` shows them at work.
 //!
 //! A function takes all that it needs in slices of the caller's memory, and keeps nothing, so that nothing has to be freed: a machine
@@ -22,6 +22,7 @@ mod answer;
 mod at;
 mod branch;
 mod calls;
+mod card;
 mod claim;
 mod claims;
 mod conditions;
@@ -62,6 +63,7 @@ pub use answer::{galluspa_check, galluspa_migrate, galluspa_record};
 pub use at::galluspa_past_at;
 pub use branch::galluspa_past_branch;
 pub use calls::{RawTurn, galluspa_calls};
+pub use card::galluspa_card_transfer;
 pub use claim::galluspa_claim;
 pub use claims::{RawCheckpoint, RawPage, galluspa_claims};
 pub use conditions::{RawCondition, RawHit};

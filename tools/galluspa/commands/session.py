@@ -1,12 +1,13 @@
-"""Makes a session from a memory image, registers and inputs; or extracts the session of a recording."""
+"""Makes a session from a memory image, or that of a card, registers and inputs; or extracts the session of a recording."""
 
 from argparse import Namespace
 from collections.abc import Sequence
+from pathlib import Path
 from textwrap import dedent
 
 from galluspa.analysis import endings
 from galluspa.engine.program import Program
-from galluspa.formats import sessions
+from galluspa.formats import cardimages, sessions
 from galluspa.formats.builds import tell_misfit
 from galluspa.formats.language import LOOPS, STOPS
 from galluspa.formats.recording import MEMORY_BYTES
@@ -20,12 +21,17 @@ def parser() -> Parser:
     options = Parser(
         dedent(
             """\
-            Prints a session (JSON) for `galluspa record`, from a memory image, registers and inputs, or
-            from a recording. Numbers are decimal, or hexadecimal with a leading 0x."""
+            Prints a session (JSON) for `galluspa record`, from a memory image or a card, registers and
+            inputs, or from a recording. Numbers are decimal, or hexadecimal with a leading 0x."""
         ),
         "galluspa session --memory memory.bin --set PC=64 --set R14=0x80000 --inputs inputs.csv --every 1000 --until " "20000",
     )
     options.add_file("--memory", "IMAGE", "a raw image of the initial memory, 1 MB or less")
+    options.add_file(
+        "--card",
+        "IMAGE",
+        "the image of an SD card of Project Oberon (2013): memory, R12 and R14 are as its boot loader leaves them",
+    )
     options.add_number("--at", "ADDRESS", 0, MEMORY_BYTES, "the byte address where the image begins (default 0)", default=0)
     options.add_repeatable(
         "--set",
@@ -111,19 +117,44 @@ def end_of(asked: Namespace, session: Session) -> int:
     return end
 
 
+def of_memory(image: Path, at: int) -> Session:
+    """Returns the session that begins with a memory image at an address."""
+    return Session(memory=sessions.image_at(str(image), read_file(image, MEMORY_BYTES + 1), at))
+
+
+def of_card(image: Path) -> Session:
+    """Returns the session that begins as the boot loader leaves the machine, after it loaded a card's image."""
+    session = Session(memory=cardimages.loaded(image))
+    for register, value in cardimages.REGISTERS.items():
+        session.registers[register] = value
+    return session
+
+
 def main(asked: Namespace) -> int:
     """Prints a session, made of an image or of a recording."""
     if asked.of:
-        if asked.memory or asked.set or asked.inputs or asked.checkpoints or asked.every or asked.until or asked.at or asked.end:
+        if (
+            asked.memory
+            or asked.card
+            or asked.set
+            or asked.inputs
+            or asked.checkpoints
+            or asked.every
+            or asked.until
+            or asked.at
+            or asked.end
+        ):
             raise Refused("--of takes everything from the recording: leave out the other options")
         text = read_file(asked.of)
         read = Program.find(asked.program).decoded(str(asked.of), text)
         write_output(asked.output, sessions.of_recording(str(asked.of), read).text())
         return 0
-    if not asked.memory:
-        raise Refused("give --memory IMAGE or --of RECORDING (see galluspa session --help)")
-    session = Session(memory=sessions.image_at(str(asked.memory), read_file(asked.memory, MEMORY_BYTES + 1), asked.at))
-    symbols = symbols_for(asked.symbols, asked.memory)
+    if bool(asked.memory) == bool(asked.card):
+        raise Refused("give --memory IMAGE, --card IMAGE or --of RECORDING (see galluspa session --help)")
+    if asked.card and asked.at:
+        raise Refused("--at is of --memory: a card is loaded to address 0")
+    session = of_card(asked.card) if asked.card else of_memory(asked.memory, asked.at)
+    symbols = symbols_for(asked.symbols, asked.card or asked.memory)
     tell_misfit(symbols, lambda: session.memory.ljust(MEMORY_BYTES, b"\0"))
     for assignment in asked.set:
         sessions.set_register(session, with_number(assignment, symbols))

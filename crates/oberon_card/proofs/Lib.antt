@@ -1,0 +1,4 @@
+pub mod ListLemmas
+pub mod CardLemmas
+pub mod TransferLemmas
+mod Examples
