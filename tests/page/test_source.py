@@ -356,7 +356,7 @@ def test_end(desk: Desk) -> None:
     for speed, (move, rounds), jump in (("clock", ("MOV R0, 3", 3), "B"), ("clock", late, "BEQ"), ("fast", late, "B")):
         desk.set_speed(speed)
         desk.run_text("ends.asm", ENDS.format(move=move, jump=jump))
-        page.wait(f"{WORD} === 'DONE' && {SOURCE_LINE} === 5 && {MODE}.includes(' at line 5, ')")
+        page.wait(f"{WORD} === 'DONE' && {SOURCE_LINE} === 5 && {MODE}.includes('Done at line 5, ')")
         end = 2 + 2 * rounds
         expect("where it ends", page.answer("[galluspa.count(), galluspa.isPast()]"), [end, False])
         for more in (0, 1_000_000):
