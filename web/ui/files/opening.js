@@ -30,7 +30,7 @@ import { dropNames, editedText, isSource, isSymbols, openSource, openSymbols } f
 import { grouped, plainName } from "../../formats/texts.js";
 import { drawLanes } from "../timeline/drawing.js";
 import { showSent } from "../screen/status.js";
-import { verdicts } from "../screen/verdicts.js";
+import { leaveVerdicts, verdicts } from "../screen/verdicts.js";
 import { isNoteUnsafe, openWork, Work } from "../../host/work.js";
 
 const LONGEST_READ = LONGEST_RECORDING + 1, LONGEST_FILE = 67108865;
@@ -302,7 +302,7 @@ export async function runOnFrom(number) {
   const answer = await app.live.ask("openRecording", { bytes: file.bytes, checkpoint: number });
   replaceWork(new Work(nameOf(file.name), answer), answer);
   showBranches();
-  verdicts.own.clear();
+  leaveVerdicts(file.claims[number]);
   showSent("");
   el("passed").textContent = "";
   beginShowing();
