@@ -62,9 +62,15 @@ class Verdict {
     this.part("line").textContent = line ?? "";
     const isEmpty = this.read.accepted?.checkpoints === 0;
     this.part("line").className = `line ${status === null || isEmpty ? "note" : STATUSES[status]}`;
-    this.part("headline").replaceChildren(...headlineParts(headlineOf(this.read) || (line ?? "")));
+    this.showHeadline(headlineOf(this.read) || (line ?? ""));
     this.part("headline").className = this.part("line").className;
     this.part("how").textContent = how;
+  }
+
+  /** @param {string} text */
+  showHeadline(text) {
+    this.part("headline").replaceChildren(...headlineParts(text));
+    this.part("headline").title = text;
   }
 
   /** Clears the place, and ends its check. */
@@ -139,7 +145,7 @@ class Verdict {
     const unsaved = rest && `Verified to ${secondsOf(this.upTo, 1)}${isLater ? `, ${rest} not saved` : ""}`;
     if (unsaved === this.unsaved) return;
     this.unsaved = unsaved;
-    this.part("headline").replaceChildren(...headlineParts(unsaved || headlineOf(this.read)));
+    this.showHeadline(unsaved || headlineOf(this.read));
   }
 
   /** Takes a report of the worker: the steps done; or the joined line of the slices, and about how long the whole will take.
