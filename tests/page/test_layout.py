@@ -1,7 +1,7 @@
 """Where things are: on laptops all is in the window but what the panel scrolls, nothing moves when a text changes, empty lanes take no room, the wheel
 scrolls the page, and on a phone the screen stays in sight."""
 
-from tests.page.driver.shows import CARD, JUDGED, LINE
+from tests.page.driver.shows import CARD, JUDGED, LINE, OWN_JUDGED
 from tests.page.driver.desk import Desk, expect
 from tests.page.driver.given import FACE
 from tests.page.driver.windows import LAPTOPS, OVERLAPS, WHOLE, WINDOWS
@@ -194,3 +194,30 @@ def test_end_game(desk: Desk) -> None:
             )
     page.resize(*WINDOWS[0])
     page.answer("el('card').querySelector('.close')?.click()")
+
+
+def test_cut_nothing(desk: Desk) -> None:
+    """In a laptop's window chips have both their ends, a long notice covers no tab, and the columns of the code are straight beside counts of nine digits."""
+    page = desk.page
+    page.resize(1366, 625)
+    desk.run_to_end("face.orsr", FACE)
+    desk.go_on()
+    page.wait("galluspa.count() > 400000000", moving="galluspa.count()")
+    desk.pause()
+    desk.look_at(8000000)
+    desk.press("save-recording")
+    page.wait(OWN_JUDGED)
+    desk.saved("face-live.orsr")
+    box = "((it) => it.getBoundingClientRect())"
+    ends = f"[...el('verdicts').querySelectorAll('b')].map((it) => [{box}(it), {box}(it.parentElement)])"
+    expect("the ends of the chips", page.answer(f"{ends}.map(([a, b]) => a.left >= b.left && a.right <= b.right)"), [True, True])
+    expect(
+        "a long notice",
+        page.answer(f"{box}(el('notice')).width > 300 && {box}(el('notice')).right < {box}(el('tab-state')).left"),
+        True,
+    )
+    desk.look_at(300000000)
+    desk.press("tab-code")
+    page.wait("[...el('listing').querySelectorAll('.times')].some((it) => it.textContent.length > 10)")
+    places = page.answer(f"[...el('listing').querySelectorAll('.place')].map((it) => {box}(it).left)")
+    expect("the columns of the places", len(set(places)), 1)

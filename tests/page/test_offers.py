@@ -56,6 +56,17 @@ def test_save_in_past(desk: Desk) -> None:
         [["a", "b"], third],
     )
     expect("the program's line", program("check", text)[1], 0)
+    # The verdict says what is not saved, and is gone once what was saved is in a branch.
+    headline, unsaved = shown("own-headline"), r"/^Verified to [\d.]+ s, [\d.]+ s not saved$/"
+    page.wait(f"{unsaved}.test({headline})")
+    desk.press("take-here")
+    page.wait(f"{headline}.startsWith('Verified: ')")
+    page.press("d")
+    page.wait(f"{unsaved}.test({headline})")
+    desk.pause()
+    desk.look_at(third - 1)
+    desk.press("take-here")
+    page.wait(f"!{headline}")
     desk.start("keys.json", (EXAMPLES / "keys.json").read_bytes())
     desk.press("step")
     desk.look_at(4)

@@ -1,7 +1,7 @@
 """What one points at in the page, by real events: a dot, a register or a word, with where its value comes from."""
 
 
-from tests.page.driver.shows import ANSWERED, CARD, EXACT, FOLLOWED, WHY
+from tests.page.driver.shows import ANSWERED, CARD, EXACT, FOLLOWED, WHY, WORD
 from tests.page.driver.desk import Desk, expect, fail
 from tests.page.driver.given import DRAWS
 
@@ -64,8 +64,8 @@ def test_ask_why(desk: Desk) -> None:
 def test_ask_why_elsewhere(desk: Desk) -> None:
     """A register and a word of memory have their links, too; and what only an input set has none."""
     page = desk.page
-    desk.run_text("pointing.asm", LOOPS, 100_000)
-    desk.pause()
+    desk.run_text("pointing.asm", LOOPS)
+    page.wait(f"{WORD} === 'DONE'")
     page.wait("sourceField.rows.some((row) => row.dataset.did)")
     desk.press("tab-state")
     desk.ask_who_wrote("R4")

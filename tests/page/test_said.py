@@ -149,8 +149,6 @@ def test_leave_what_is_open(desk: Desk) -> None:
     desk.set_speed("clock")
     desk.start("face.orsr", face)
     desk.expect_line("the recording that is open", face)
-    desk.click("take-over")
-    desk.go_on()
     for name, text, line in (
         ("short.orsr", STORED[:-1], program("check", STORED[:-1])[0]),
         ("shape.json", b"{}", "session refused 2 shape"),
@@ -160,9 +158,11 @@ def test_leave_what_is_open(desk: Desk) -> None:
         desk.expect_refused(name, line)
         expect(
             "what is still open",
-            page.answer(f"[{LINE}, galluspa.frame().on, el('refused-how').textContent, el('claims').hidden]"),
-            [program("check", face)[0], True, "face is still open.", False],
+            page.answer(f"[{LINE}, galluspa.frame().on, el('refused-how').textContent.slice(-19), el('claims').hidden]"),
+            [program("check", face)[0], False, "face is still open.", False],
         )
+    desk.click("take-over")
+    desk.go_on()
     desk.choose("image.bin", STORED[24:1048])
     page.wait("!el('image').hidden")
     desk.click("make-checkpoint")

@@ -2,7 +2,7 @@
 
 import re
 
-from tests.page.driver.shows import ASSEMBLED, NOTICE, PARTS, SOURCE_LINE, SOURCE_SAID, STOP, WORD
+from tests.page.driver.shows import ASSEMBLED, MODE, NOTICE, PARTS, SOURCE_LINE, SOURCE_SAID, STOP, WORD
 from tests.page.driver.desk import CTRL, SHIFT, Desk, expect, fail
 from tests.page.driver.given import DRAWS, RECURSIVE
 from tests.tools.samples import EXAMPLES
@@ -338,10 +338,34 @@ def test_explain_stop(desk: Desk) -> None:
         ("DIV R0, R0, R3", "divisor: R3 = 00000000 is below 1, line 1; R3 was never written since the start."),
         ("MOV R3, 0\nDIV R0, R0, R3", "divisor: R3 = 00000000 is below 1, line 2; R3 was set by line 1."),
         ("MOV R0, 1\nFAD R0, R0, R0", "float: there is no FAD in this machine, line 2; it came from line 1."),
+        ("MOV R0, 1\nMOV R0, 2", "fetch: PC = 100000 is outside memory, PC 262144; it ran out of the program after line 2."),
     ):
         desk.run_text("other.asm", source)
         page.wait(f"{STOP}.endsWith('.')")
         expect(f"what is said of {source!r}", page.answer(STOP), said)
+
+
+# Counts down, and ends: at a jump to itself, by a flag or without one.
+ENDS = "        {move}\nagain:  SUB R0, R0, 1\n        BNE again\n        SUB R1, R0, 0\ndone:   {jump} done\n"
+
+
+def test_end(desk: Desk) -> None:
+    """The run of a program pauses as it comes to its end, also late or at full speed; a step back leads to the line before, also once it has run on there."""
+    page = desk.page
+    late = ("MOV' R0, 100", 100 << 16)
+    for speed, (move, rounds), jump in (("clock", ("MOV R0, 3", 3), "B"), ("clock", late, "BEQ"), ("fast", late, "B")):
+        desk.set_speed(speed)
+        desk.run_text("ends.asm", ENDS.format(move=move, jump=jump))
+        page.wait(f"{WORD} === 'DONE' && {SOURCE_LINE} === 5 && {MODE}.includes('Done at line 5, ')")
+        end = 2 + 2 * rounds
+        expect("where it ends", page.answer("[galluspa.count(), galluspa.isPast()]"), [end, False])
+        for more in (0, 1_000_000):
+            if more:
+                desk.go_on()
+                page.wait(f"galluspa.count() > {end + more}")
+                desk.pause()
+            expect("the line before", (desk.press_and_look("back"), page.answer(SOURCE_LINE)), (end - 1, 4))
+            desk.press("now")
 
 
 # What each step of a lesson asks for, as a change of its example, by the number of the lesson. Each step's claim is at a count that a run passes at once.

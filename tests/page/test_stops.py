@@ -6,6 +6,7 @@ import re
 import struct
 
 from tests.page.driver.desk import Desk, expect, fail, program
+from tests.page.driver.given import ECHOES
 from tests.page.driver.shows import CARD, EXACT, MODE, SENT, WORD, shown
 from tests.tools.samples import EXAMPLES, JUMP, record, session
 
@@ -211,3 +212,22 @@ def test_show_lanes_of_recording(desk: Desk) -> None:
         desk.press("run")
         page.wait("!galluspa.frame().isReplay && !galluspa.frame().on")
         expect(f"the lanes of a replay, {speed}", lists(desk), wanted)
+
+
+def test_show_output(desk: Desk) -> None:
+    """Below the screen are the LEDs, and the last line that was sent up to the count that is looked at."""
+    page = desk.page
+    lamps = "[...el('output').querySelectorAll('i')].map((it) => Number(it.className === 'lit')).join('')"
+    output = f"`${{el('sent-line').textContent}} ${{{lamps}}}`"
+    desk.run_text("echo.asm", ECHOES.format(more=0))
+    for number, key in enumerate(("a", "Enter", "b", "c"), 1):
+        page.press(key)
+        page.wait(f"galluspa.frame().inputs === {number}")
+    page.wait(f"{output} === 'bc 01100011'")
+    desk.pause()
+    page.answer("el('cursor').focus()")
+    for said in ("b 01100010", "a 00001101", "a 01100001"):
+        page.press(",")
+        page.wait(f"{EXACT} && {output} === '{said}'")
+    desk.press("now")
+    expect("what is below the screen now", page.answer(output), "bc 01100011")

@@ -5,7 +5,7 @@ import json
 import re
 from collections import defaultdict
 
-from tests.page.driver.shows import ASSEMBLED, EXACT, SOURCE_LINE, shown
+from tests.page.driver.shows import ASSEMBLED, EXACT, SOURCE_LINE, WORD, shown
 from tests.page.driver.desk import CTRL, SHIFT, Desk, expect
 from tests.page.driver.given import DRAWS, RECURSIVE
 from tests.tools.samples import TOP, tool
@@ -227,9 +227,7 @@ def test_step_by_keys(desk: Desk) -> None:
     path.write_text(RECURSIVE)
     desk.start("sum.json", tool("assemble", path).output)
     desk.click("run")
-    page.wait("galluspa.count() > 1000")
-    page.press("F8")
-    page.wait("!galluspa.frame().on && !galluspa.source().isRunning")
+    page.wait(f"{WORD} === 'DONE' && !galluspa.source().isRunning")
     desk.press("tab-code")
     expect("the counts of the same steps without a source", walk_by_keys(desk), counts)
     desk.press("tab-state")

@@ -2,6 +2,7 @@
 /* A machine that the library advances: its state and its 262,144 words in the module's memory. The live machine (machine.js) is one, and
  * those that look into the past (past.js) are others. */
 import { INPUT_BYTES } from "../formats/layout.js";
+import { isEnd } from "../formats/instructions.js";
 import { ADVANCE_REFUSALS, DONE, NO_ROOM } from "./library.js";
 import { Refused } from "../formats/refused.js";
 import { AT, countOf, DISPLAY_AT, DISPLAY_BYTES, field, MEMORY_BYTES, STATE_BYTES, WORDS } from "../formats/states.js";
@@ -40,6 +41,12 @@ export class Emulator {
   /** @param {keyof typeof AT} name */
   part(name) {
     return field(this.state, AT[name]);
+  }
+
+  /** Whether the machine is where its program ends. */
+  get isAtEnd() {
+    const pc = this.part("PC");
+    return pc < WORDS && isEnd(this.word(pc), pc, this.part("flags"));
   }
 
   /** Returns the state and the words at an address.

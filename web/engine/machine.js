@@ -3,6 +3,7 @@
  * stamped with the count of the instruction before which it comes. */
 import { Arrivals } from "./arrivals.js";
 import { Claims } from "./claims.js";
+import { elsewhere } from "../formats/conditions.js";
 import { copied } from "./emulator.js";
 import { Inputs, isInput } from "../formats/inputs.js";
 import { INPUT_BYTES } from "../formats/layout.js";
@@ -192,15 +193,25 @@ export class Machine extends Playback {
     return number;
   }
 
-  /** Runs up to a count or less, and returns the bytes that the machine sent.
-   * @param {number} to */
-  advance(to) {
-    const sent = this.run(this.inputs, this.next, to, this.sentRoom);
+  /** Runs up to a count or less, and returns the bytes that the machine sent. If it is to stop where its program ends, a copy from before says where that is.
+   * @param {number} to
+   * @param {boolean} isToEnd */
+  advance(to, isToEnd = false) {
+    if (isToEnd) this.put(this.other, this.at(this.address));
+    const all = this.run(this.inputs, this.next, to, this.sentRoom), sent = isToEnd && this.isAtEnd ? this.runToEnd() : all;
     this.next = this.inputs.from(this.count, this.next);
     this.recorder.note(sent);
     this.sentTotal += sent.length;
     if (this.recording && sent.length) this.sentSince.push(sent);
     return sent;
+  }
+
+  /** Runs from before once more, up to where the program has come to its end. */
+  runToEnd() {
+    const inputs = this.inputs.bytes.subarray(INPUT_BYTES * this.next, INPUT_BYTES * this.inputs.from(this.count, this.next));
+    const last = this.library.find(this.other, inputs, this.count, elsewhere(this.part("PC")), true);
+    this.put(this.address, this.at(this.other));
+    return this.run(this.inputs, this.next, last ? last.at + 1 : this.count, this.sentRoom);
   }
 
   /** Returns the next count at which to stop: that of a checkpoint that is planned, the end of a replay, or a checkpoint that is

@@ -76,6 +76,15 @@ export function movedNumber(word, before) {
   return isUpper && form === 0x40060000 ? (before & 0xffff) * 0x10000 + (word & 0xffff) : null;
 }
 
+/** Whether a program ends at an instruction: it jumps to itself, which changes neither a flag nor anything else by which it would go on.
+ * @param {number} word
+ * @param {number} at
+ * @param {number} flags */
+export function isEnd(word, at, flags) {
+  const [n, z, c, v] = [3, 2, 1, 0].map((place) => bit(flags, place)), holds = [n, z, c, v, c || z, n !== v, n !== v || z, true][word >>> 24 & 7];
+  return branchTarget(word, at) === at && holds !== bit(word, 27);
+}
+
 /** Returns the registers and flags that an instruction reads; a store also reads what it stores.
  * @param {number} word */
 export function operandsOf(word) {

@@ -4,6 +4,7 @@
 import { app } from "./app.js";
 import { el } from "./elements.js";
 import { AT, countOf, field, PER_SECOND, withDisk } from "../formats/states.js";
+import { isEnd } from "../formats/instructions.js";
 import { grouped, many, timeText } from "../formats/texts.js";
 
 // The count and its moment
@@ -81,6 +82,13 @@ export function setGoal(goal) {
 export function stopText(state) {
   const at = stoppedAt();
   return `${at === null ? "" : `at ${grouped(at)}: `}${WHY[field(state, AT.stop)]}`;
+}
+
+/** Whether the machine is where its program ends.
+ * @param {Frame} frame */
+export function isDone({ state, listing }) {
+  const pc = field(state, AT.PC), [, word] = listing.find(([place]) => place === pc) ?? [];
+  return word !== undefined && isEnd(word, pc, field(state, AT.flags));
 }
 
 /** Whether the machine is run as fast as it goes, and after how many seconds of it there is a checkpoint each; 0 for none. */

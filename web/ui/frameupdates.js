@@ -17,6 +17,7 @@ import { showSourceNow } from "./source/source.js";
 import { AT, countOf, field } from "../formats/states.js";
 import { appendSent, showLamps, showStatus } from "./screen/status.js";
 import { findStop } from "./source/stops.js";
+import { showUnsaved } from "./screen/verdicts.js";
 import { showCursor } from "./timeline/cursor.js";
 import { noteFrame } from "./timeline/timeline.js";
 
@@ -43,6 +44,7 @@ function showFrame(frame) {
   set("game", { hidden: !isPlayed });
   set("state", { hidden: isPlayed });
   showMode(frame);
+  showUnsaved(frame);
   if (showStatus(frame) && !isPast()) showCursor(!frame.on);
   showSerial(frame);
   if (wasOn && !frame.on) keepRun();

@@ -9,6 +9,9 @@ import { sourceEditor } from "./source/desk.js";
 import { attempt } from "../host/elements.js";
 import { subscribe } from "../host/events.js";
 import { keepSoon } from "../host/keeping.js";
+import { onNames } from "../host/names.js";
+import { app } from "../host/app.js";
+import { showMode } from "./timeline/cursormoves.js";
 import { endPlayback, showKept } from "./files/savedlist.js";
 import { showCode, showListing } from "./code/listing.js";
 import { showMemory, showWatches } from "./code/memory.js";
@@ -43,6 +46,7 @@ export function subscribePanels() {
   subscribe("counted", showCounting);
   subscribe("pins", showPins);
   subscribe("ended", () => attempt(endPlayback));
+  onNames(() => app.latest && showMode(app.latest));
   for (const name of /** @type {const} */ (["breaks", "watches", "pins", "settled", "now"])) subscribe(name, keepSoon);
   subscribe("followed", showFollowed, showStepping);
 }

@@ -11,17 +11,18 @@ const FIRST_CHUNK = 200000, QUIET_TURNS = 30;
 /** A run: at 25 MHz or as fast as it goes, up to a goal if there is one, with a checkpoint at a distance in seconds. Then when and where it begun, when
  * its last turn begun, its clock, how long its turns took, their number, how many had no news, its pace, the hit at which it is paused, the
  * count of the instruction that is done though it has a breakpoint, whether the recording became full, at which speed it goes on live after its goal, at which
- * return it ends, and whether it has come there.
+ * return it ends, and whether it has come there; whether it goes on where the program ends, and whether it has come there.
  * @typedef {{ on: boolean, fast: boolean, goal: number | null, seconds: number, begun: number, from: number, turn: number,
  *   clock: { ms: number, count: number }, busy: number, frames: number, quiet: number, pace: Pace,
  *   hit: { at: number, condition: Condition } | null, passed: number, becameFull: boolean, then: { fast: boolean } | null,
- *   returns: Return | null, isBack: boolean }} Run */
+ *   returns: Return | null, isBack: boolean, isEndless: boolean, isDone: boolean }} Run */
 
 /** A run that has ended, or never began.
  * @returns {Run} */
 export const noRun = () => ({
   on: false, fast: false, goal: null, seconds: 0, begun: 0, from: 0, turn: 0, clock: { ms: 0, count: 0 }, busy: 0, frames: 0, quiet: 0,
   pace: new Pace(BUDGET_MS, FIRST_CHUNK), hit: null, passed: -1, becameFull: false, then: null, returns: null, isBack: false,
+  isEndless: false, isDone: false,
 });
 /** @type {Run} */
 export let run = noRun();

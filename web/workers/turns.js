@@ -43,7 +43,7 @@ export function setRun({ on, fast = false, goal = null, seconds = 0, then = null
   const now = performance.now();
   const { count } = machine, clock = { ms: now, count };
   const back = isGoingOn ? run.returns : returns && new Return(library, returns);
-  replaceRun({ ...noRun(), on, fast, goal, seconds, then, returns: back, begun: now, turn: now, from: count, clock, passed: isGoingOn ? -1 : count });
+  replaceRun({ ...noRun(), on, fast, goal, seconds, then, returns: back, begun: now, turn: now, from: count, clock, passed: isGoingOn ? -1 : count, isEndless: goal !== null || machine.isAtEnd });
   if (on) return isDue ? undefined : tick();
   endRun();
   show(NOTHING);
@@ -90,18 +90,18 @@ function isAtEnd() {
   return machine.isReplay && machine.part("stop") !== 0;
 }
 
-/** Whether the run ends after a turn: at its goal, at the end of a replay, where the machine has stopped, where the recording became
+/** Whether the run ends after a turn: at its goal, at the end of a replay, where the machine has stopped, where its program ends, where the recording became
  * full, and at the last count that there is, at which a file may have inputs.
  * @param {boolean} wasReplay */
 function isOver(wasReplay) {
-  if (run.becameFull || run.hit || run.isBack || machine.isAtLastCount || (run.goal !== null && machine.count >= run.goal)) return true;
+  if (run.becameFull || run.hit || run.isBack || run.isDone || machine.isAtLastCount || (run.goal !== null && machine.count >= run.goal)) return true;
   return !machine.isReplay && (wasReplay || machine.part("stop") !== 0);
 }
 
 /** Ends the run, or continues live from its goal. */
 function endOrGoOn() {
   const { then, hit, becameFull, seconds } = run;
-  if (!then || hit || becameFull || machine.isReplay || machine.part("stop")) return endRun();
+  if (!then || hit || becameFull || machine.isReplay || machine.part("stop") || machine.isAtEnd) return endRun();
   const now = performance.now(), { count } = machine;
   replaceRun({ ...noRun(), on: true, fast: then.fast, seconds, begun: now, turn: now, from: count, clock: { ms: now, count }, frames: run.frames });
 }
@@ -166,7 +166,7 @@ function turnTo(to, deadline) {
   /** @type {Bytes[]} */
   const sent = [];
   const pieced = performance.now() + PIECES_MS, { isReplay } = machine, least = Math.ceil((to - machine.count) / PIECES);
-  const isToGoOn = () => machine.count < to && machine.isReplay === isReplay && !run.becameFull && !run.hit && !run.isBack;
+  const isToGoOn = () => machine.count < to && machine.isReplay === isReplay && !run.becameFull && !run.hit && !run.isBack && !run.isDone;
   // A recording that goes on may have reached a limit before.
   run.becameFull ||= machine.endIfFull();
   for (let piece = least; isToGoOn() && (!sent.length || performance.now() < deadline);) {
@@ -188,7 +188,10 @@ function advanceTo(stop, sent) {
   try {
     const end = breaks.length || run.returns ? breakBefore(stop) : stop;
     if (end <= machine.count) return;
-    sent.push(machine.advance(end));
+    const isToEnd = !run.isEndless && !machine.isReplay;
+    // While it takes by pieces what was typed, no copy is made: it may pass the end by a piece.
+    sent.push(machine.advance(end, isToEnd && !machine.arrivals.typed));
+    run.isDone = isToEnd && machine.isAtEnd;
   } finally {
     machine.takeBack();
   }

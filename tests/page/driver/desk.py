@@ -22,6 +22,7 @@ from tests.page.driver.shows import (
     OWN_JUDGED,
     OWN_LINE,
     REFUSED_LINE,
+    WORD,
     shown,
 )
 from tests.tools import browser
@@ -362,10 +363,13 @@ class Desk:
         self.page.wait(f"{is_there} && galluspa.source().isRunning")
 
     def run_text(self, name: str, text: str, past: int = -1) -> None:
-        """Opens a source, runs it, and waits until its machine is past a count."""
+        """Opens a source, runs it, and waits until its machine is past a count; a program that ends before goes on where it ends."""
         self.open_source(name, text)
         self.run_source()
-        self.page.wait(f"galluspa.count() > {past}")
+        self.page.wait(f"galluspa.count() > {past} || {WORD} === 'DONE'")
+        if self.page.answer(f"galluspa.count() <= {past}"):
+            self.go_on()
+            self.page.wait(f"galluspa.count() > {past}")
 
     def type_line(self, text: str) -> None:
         """Types a line into the source, and Enter."""

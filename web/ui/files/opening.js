@@ -29,7 +29,8 @@ import { MEMORY_BYTES } from "../../formats/states.js";
 import { dropNames, editedText, isSource, isSymbols, openSource, openSymbols } from "../code/symbolfiles.js";
 import { grouped, plainName } from "../../formats/texts.js";
 import { drawLanes } from "../timeline/drawing.js";
-import { verdicts } from "../screen/verdicts.js";
+import { showSent } from "../screen/status.js";
+import { leaveVerdicts, verdicts } from "../screen/verdicts.js";
 import { isNoteUnsafe, openWork, Work } from "../../host/work.js";
 
 const LONGEST_READ = LONGEST_RECORDING + 1, LONGEST_FILE = 67108865;
@@ -282,7 +283,7 @@ export function showOpened(opened, work, others) {
   clearRefusal();
   for (const name of ["claim", "passed"]) el(name).textContent = "";
   endPreview();
-  el("out").textContent = work.sent;
+  showSent(work.sent);
   el("image").hidden = true;
   closeMenus();
   el("claims").hidden = !claims;
@@ -301,8 +302,9 @@ export async function runOnFrom(number) {
   const answer = await app.live.ask("openRecording", { bytes: file.bytes, checkpoint: number });
   replaceWork(new Work(nameOf(file.name), answer), answer);
   showBranches();
-  verdicts.own.clear();
-  el("out").textContent = el("passed").textContent = "";
+  leaveVerdicts(file.claims[number]);
+  showSent("");
+  el("passed").textContent = "";
   beginShowing();
   notice(number >= wrong ? `Checkpoint ${wrong} is false, and a recording that you save from here contains it.` : "");
   el("screen").scrollIntoView({ block: "nearest" });

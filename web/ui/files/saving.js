@@ -38,7 +38,9 @@ async function saved(made, said = []) {
   const name = savedName("orsr"), source = runningProgram() ? "A recording has no source: Export, under Saved, writes both in one file." : "";
   download(name, made.bytes, "application/octet-stream");
   notice([...said, source].filter(Boolean).join(" "));
-  const begun = performance.now(), answer = await verdicts.own.check(name, made.bytes);
+  const begun = performance.now(), checked = verdicts.own.check(name, made.bytes);
+  verdicts.own.inputs = app.latest?.inputs ?? 0;
+  const answer = await checked;
   if (!answer) return;
   if (answer.status === 0) noteChecked(made.count);
   writeWhole("status", `${grouped(made.bytes.length)} bytes, checked in ${((performance.now() - begun) / 1000).toFixed(1)} s`);

@@ -291,7 +291,7 @@ export function showDevices(state) {
 }
 
 export function makeDevices() {
-  el("leds").replaceChildren(...Array.from({ length: 8 }, () => document.createElement("i")));
+  for (const lamps of document.querySelectorAll("#galluspa .lamps")) lamps.replaceChildren(...Array.from({ length: 8 }, () => document.createElement("i")));
   for (let at = 11; at >= 0; at--) {
     const label = document.createElement("label"), box = document.createElement("input");
     Object.assign(box, { type: "checkbox", value: at });

@@ -5,8 +5,9 @@ import { DOTS_WIDE, LINE_BYTES, LINES, SHADES, SMALL_HIGH, SMALL_WIDE } from "..
 import { download, el, isNarrow } from "../../host/elements.js";
 import { shownCount } from "../../host/shown.js";
 
-// In CSS pixels: the width that a screen in a wide window leaves to icons and tabs, its least height, and the room around it with its frame.
-const SIDE_ROOM = 478, LEAST_HEIGHT = 340, MARGIN = 7, WHOLE_SHARE = 0.7;
+// In CSS pixels: the width that a screen in a wide window leaves to icons and tabs, its least height, the room around it with its frame, and that of the line
+// below it.
+const SIDE_ROOM = 478, LEAST_HEIGHT = 340, MARGIN = 7, OUTPUT_ROOM = 24, WHOLE_SHARE = 0.7;
 // Beside a source the screen has at most this share of the width, and leaves this height to an answer below it.
 const SOURCE_SHARE = 0.31, UNDER_ROOM = 148, LEAST_BESIDE = 200;
 /** A canvas, and the dots that it shows.
@@ -76,7 +77,7 @@ function roomForScreen() {
   if (document.fullscreenElement === el("stage")) return [innerWidth, innerHeight];
   const isWide = matchMedia("(min-width: 64rem)").matches, all = el("desk").parentElement?.clientWidth ?? innerWidth;
   if (isNarrow()) return [all - MARGIN, Infinity];
-  const above = el("stage").getBoundingClientRect().top + scrollY, room = innerHeight - above - el("stay").offsetHeight - MARGIN;
+  const above = el("stage").getBoundingClientRect().top + scrollY, room = innerHeight - above - el("stay").offsetHeight - MARGIN - OUTPUT_ROOM;
   if (isWide && !el("panel-source").hidden) return [all * SOURCE_SHARE, Math.max(LEAST_BESIDE, room - UNDER_ROOM)];
   return [all - (isWide ? SIDE_ROOM : MARGIN), Math.max(LEAST_HEIGHT, room)];
 }

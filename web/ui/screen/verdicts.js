@@ -2,10 +2,11 @@
 /* The verdict lines that the page shows, each in a place of its own: that of the file that is open, and that of the recording that
  * was saved. Each check has a worker of its own. */
 import { app } from "../../host/app.js";
-import { el, made, named, notice } from "../../host/elements.js";
+import { el, made, named, notice, set } from "../../host/elements.js";
 import { faultText, readLine } from "../../formats/lines.js";
 import { Helper } from "../../host/requests.js";
-import { PER_SECOND } from "../../formats/states.js";
+import { perSecond, secondsOf } from "../../host/shown.js";
+import { countOf, PER_SECOND } from "../../formats/states.js";
 import { grouped, many, timeText } from "../../formats/texts.js";
 
 export const STATUSES = ["accepted", "false", "refused"];
@@ -34,6 +35,10 @@ class Verdict {
   /** @type {number | null} */
   status = null;
   read = readLine("");
+  // How many inputs the machine had as it was saved, from which count on another run is open than what is judged, and what is said of what is not saved.
+  inputs = Infinity;
+  left = Infinity;
+  unsaved = "";
 
   /** `place` begins the names of its elements, and `what` says what is judged.
    * @param {string} place
@@ -53,19 +58,25 @@ class Verdict {
    * @param {number | null} status
    * @param {string} how */
   show(line, status = null, how = "") {
-    Object.assign(this, { line, status, read: readLine(line ?? "") });
+    Object.assign(this, { line, status, read: readLine(line ?? ""), unsaved: "" });
     this.part("line").textContent = line ?? "";
     const isEmpty = this.read.accepted?.checkpoints === 0;
     this.part("line").className = `line ${status === null || isEmpty ? "note" : STATUSES[status]}`;
-    this.part("headline").replaceChildren(...headlineParts(headlineOf(this.read) || (line ?? "")));
+    this.showHeadline(headlineOf(this.read) || (line ?? ""));
     this.part("headline").className = this.part("line").className;
     this.part("how").textContent = how;
+  }
+
+  /** @param {string} text */
+  showHeadline(text) {
+    this.part("headline").replaceChildren(...headlineParts(text));
+    this.part("headline").title = text;
   }
 
   /** Clears the place, and ends its check. */
   clear() {
     this.end();
-    this.work = null;
+    Object.assign(this, { work: null, inputs: Infinity, left: Infinity });
     this.show(null);
     this.part("judged").textContent = "";
   }
@@ -106,7 +117,35 @@ class Verdict {
     const other = this.line;
     this.show(line, status, `${faultText(line)} ${OF_ONE_CALL}`.trim());
     if (other && other !== line) notice(`The slices came to another line, which this page's script or the browser got wrong: ${other}`, true);
-    return { line, status, ...this.read };
+    const { read } = this;
+    if (this.upTo > this.left) this.clear();
+    if (app.latest) showUnsaved(app.latest);
+    return { line, status, ...read };
+  }
+
+  /** The count up to which the verdict is known. */
+  get upTo() {
+    return this.read.accepted?.steps ?? this.read.wrong?.count ?? -1;
+  }
+
+  /** Another run goes on from a count: a verdict on what came after that is not its.
+   * @param {number} at */
+  leave(at) {
+    this.left = Math.min(this.left, at);
+    if (this.upTo > at) this.clear();
+  }
+
+  /** Says how much of the run that is open came after what was judged; of two verdicts the later one says how much is not saved.
+   * @param {Frame} frame
+   * @param {boolean} isLater */
+  follow({ state, inputs }, isLater) {
+    const { accepted } = this.read, over = countOf(state) - this.upTo, more = inputs - this.inputs;
+    if (!accepted?.checkpoints) return;
+    const rest = over > 0 ? secondsOf(over, over < perSecond() ? 1 : 0) : more > 0 ? many(more, "input") : "";
+    const unsaved = rest && `Verified to ${secondsOf(this.upTo, 1)}${isLater ? `, ${rest} not saved` : ""}`;
+    if (unsaved === this.unsaved) return;
+    this.unsaved = unsaved;
+    this.showHeadline(unsaved || headlineOf(this.read));
   }
 
   /** Takes a report of the worker: the steps done; or the joined line of the slices, and about how long the whole will take.
@@ -169,6 +208,22 @@ function knownSoFar({ done, steps, judged, checkpoints }) {
   if (!steps) return "Nothing is known of it yet.";
   const found = judged ? `Up to checkpoint ${grouped(judged)} of ${grouped(checkpoints ?? 0)} all are true` : "No checkpoint was judged";
   return `${found}; ${grouped(done)} of ${grouped(steps)} steps were checked.`;
+}
+
+/** Another run goes on from a count.
+ * @param {number} at */
+export function leaveVerdicts(at) {
+  verdicts.file.leave(at);
+  verdicts.own.leave(at);
+  if (!verdicts.file.line) set("show-false", { hidden: true });
+}
+
+/** Says how much of the run that is open is not saved.
+ * @param {Frame} frame */
+export function showUnsaved(frame) {
+  const { file, own } = verdicts;
+  file.follow(frame, file.upTo > own.upTo);
+  own.follow(frame, own.upTo >= file.upTo);
 }
 
 export const verdicts = { file: new Verdict("", "The file"), own: new Verdict("own-", "The recording that you saved,") };

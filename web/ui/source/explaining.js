@@ -5,7 +5,9 @@ import { moveCursor } from "../timeline/cursormoves.js";
 import { lineOfWord, sourceEditor } from "./desk.js";
 import { button, el, paragraph } from "../../host/elements.js";
 import { instruction } from "../../formats/instructions.js";
-import { AT, field, hex } from "../../formats/states.js";
+import { COUNTER } from "../../formats/conditions.js";
+import { runningProgram } from "./sourceprogram.js";
+import { AT, field, hex, last } from "../../formats/states.js";
 
 const FLOAT = 1, DIVISOR = 2, ADDRESS = 4, NO_REGISTER = -1;
 
@@ -24,16 +26,19 @@ export async function explainStop({ at = 0, pc = 0, word, state }, stop) {
   if (app.work.fork !== fork || !found || found.stopped) return;
   const setter = found.stored ?? found;
   if (setter.at === undefined) line.append(`; R${register} was never written since the start`);
-  else line.append(register === NO_REGISTER ? "; it came from " : `; R${register} was set by `, instructionButton(setter.at, setter.pc ?? 0));
+  else line.append(register !== NO_REGISTER ? `; R${register} was set by ` : found.sure === false ? "; it ran out of the program after " : "; it came from ", instructionButton(setter.at, setter.pc ?? 0));
   line.append(".");
 }
 
-/** Returns the instruction before one.
+/** Returns the instruction before one; if that is no longer of the program, the last one of the program, which is not `sure`.
  * @param {number} at
  * @returns {Promise<Written | null>} */
 async function cameFrom(at) {
-  const [row] = at ? (await app.past.around(at, 1, 0)) ?? [] : [];
-  return row ? { at: row.count, pc: row.pc } : null;
+  const words = [...(runningProgram()?.parts.values() ?? [])].flatMap(({ lines }) => [...lines.keys()]).sort((one, other) => one - other), end = words.length ? last(words) + 1 : 0;
+  const [row] = at ? (await app.past.around(at, 1, 0)) ?? [] : [], isOut = row !== undefined && (row.pc >= end || row.pc < words[0]);
+  if (!row || !end || !isOut) return row ? { at: row.count, pc: row.pc } : null;
+  const hit = await app.past.find({ to: at, last: true, conditions: [{ kind: COUNTER, from: words[0], end, value: 0 }], request: app.past.numbered() });
+  return hit?.at === undefined ? { at: row.count, pc: row.pc } : { at: hit.at, pc: (await app.past.around(hit.at, 0, 1))?.[0]?.pc, sure: false };
 }
 
 /** Returns why the machine stopped, and the number of the register that led to it.

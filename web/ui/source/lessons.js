@@ -4,7 +4,8 @@ import { offer } from "../../host/commands.js";
 import { assembler, FIRST_SOURCE, setDesk, sourceEditor, sourceFile, sourcesNow } from "./desk.js";
 import { button, closeMenus, closer, el, made, notice, paragraph, set } from "../../host/elements.js";
 import { unpacked } from "../../host/packed.js";
-import { nowCount } from "../../host/shown.js";
+import { app } from "../../host/app.js";
+import { isDone, nowCount } from "../../host/shown.js";
 import { showSource } from "./source.js";
 import { beginSource } from "./sourceautosave.js";
 import { writeLesson } from "./teaching.js";
@@ -94,7 +95,7 @@ function notRun(at) {
   const own = runningProgram();
   if (!own) return "Run the program first.";
   if (own.source.join("\n") !== sourceEditor().text) return "The source was changed since it ran: run it first.";
-  return nowCount() < at ? `The run is at count ${grouped(nowCount())}, and this step asks about count ${grouped(at)}: run on first.` : null;
+  return nowCount() < at && !(app.latest && isDone(app.latest)) ? `The run is at count ${grouped(nowCount())}, and this step asks about count ${grouped(at)}: run on first.` : null;
 }
 
 /** Lets the check judge the claim of a step, once the program was run: the verdict line of a recording of the program says whether it did what is wanted. If not, the

@@ -2,11 +2,11 @@
 /* Steps by line, forward and back: into, over and out of what a branch with link calls. A line is an instruction. Which calls are open, and where they are over, is
  * followed by the library. In a program without a stack R14 is any register, so there a call ends where PC comes to the word after it. */
 import { app } from "../../host/app.js";
-import { COUNTER } from "../../formats/conditions.js";
+import { COUNTER, elsewhere } from "../../formats/conditions.js";
 import { callAt, callsIn } from "../../formats/calls.js";
 import { notice } from "../../host/elements.js";
 import { moveCursor } from "../timeline/cursormoves.js";
-import { isAhead, isPast, nowCount, shownCount, shownState } from "../../host/shown.js";
+import { isAhead, isDone, isPast, nowCount, shownCount, shownState } from "../../host/shown.js";
 import { runningProgram } from "./sourceprogram.js";
 import { AT, field } from "../../formats/states.js";
 import { grouped } from "../../formats/texts.js";
@@ -61,9 +61,13 @@ async function lookAtEnd(at, open, why) {
  * @param {Returning} returns */
 const runToReturn = (returns) => app.live.ask("setRun", { on: true, fast: true, returns });
 
-/** Does one instruction more, or one less; what it calls is entered.
+/** Does one instruction more, or one less; what it calls is entered. From the end of a program one instruction less is the one that led there.
  * @param {boolean} isBack */
 export async function stepInto(isBack) {
+  if (isBack && app.latest && !isPast() && isDone(app.latest)) {
+    const last = await app.past.find({ to: nowCount(), last: true, conditions: elsewhere(shownCounter()), request: app.past.numbered() });
+    if (last?.at !== undefined) return moveCursor(last.at);
+  }
   if (isBack) return moveCursor(shownCount() - 1);
   if (isPast()) return moveCursor(shownCount() + 1);
   await app.live.ask("step");

@@ -9,6 +9,7 @@ import { listed } from "../../host/records.js";
 import { secondsOf } from "../../host/shown.js";
 import { drawLanes } from "./drawing.js";
 import { lanes } from "./lanes.js";
+import { leaveVerdicts } from "../screen/verdicts.js";
 import { openWork, Work } from "../../host/work.js";
 import { oneAtATime } from "../../host/locks.js";
 
@@ -25,6 +26,7 @@ export function mayBranch() {
  * @param {number} at
  * @param {NonNullable<Requests["takeOver"][1]>} answer */
 export function branchOff(at, { left, begun, fork }) {
+  leaveVerdicts(at);
   const before = app.work, family = before.family ?? Date.now(), { list, made } = branches;
   Object.assign(before, { family, parent: at, end: left?.count ?? lanes.end });
   openWork(Object.assign(new Work(before.name, { ...before, fork }), { family, parent: at, number: made + 1 }));

@@ -8,12 +8,13 @@ import { offer } from "../../host/commands.js";
 import { showDevices } from "../screen/devices.js";
 import { el, notice, set, write, writeWhole } from "../../host/elements.js";
 import { publish } from "../../host/events.js";
+import { lineOf } from "../../host/names.js";
 import { drawSoon, endPreview } from "../screen/screen.js";
 import {
-  apart, everySeconds, isAhead, isPast, isPlaying, isTab, isToGoOn, cursor, cursorToNow, nowCount, secondsOf, setGoal, setCursor, setToGoOn, shownCount, stoppedAt, stopText,
+  apart, everySeconds, isAhead, isDone, isPast, isPlaying, isTab, isToGoOn, cursor, cursorToNow, nowCount, secondsOf, setGoal, setCursor, setToGoOn, shownCount, stoppedAt, stopText,
 } from "../../host/shown.js";
 import { AT, countOf, field } from "../../formats/states.js";
-import { dropSent, showLamps } from "../screen/status.js";
+import { dropSent, showLamps, showLastLine, showSentBefore } from "../screen/status.js";
 import { grouped, many } from "../../formats/texts.js";
 import { showCursor } from "./cursor.js";
 import { lanes } from "./lanes.js";
@@ -80,6 +81,7 @@ export async function backToNow(isSettled = true) {
   el("nearly").hidden = true;
   if (app.dots) drawSoon(app.dots);
   showLamps(field(app.latest.state, AT.LEDs));
+  showLastLine(app.work.sent);
   showDevices(app.latest.state);
   publish("now", app.latest);
 }
@@ -99,6 +101,7 @@ function showMoment(moment) {
   el("nearly").hidden = moment.exact;
   drawSoon(moment.dots);
   showLamps(field(moment.state, AT.LEDs));
+  showSentBefore(moment.sent);
   publish("moment", moment);
   write("when", moment.exact ? `Registers, before instruction ${grouped(moment.at)}` : "Registers, nearly");
   if (app.latest) showMode(app.latest);
@@ -111,6 +114,7 @@ function showMoment(moment) {
  * @param {Moment} moment */
 export function showOther(moment) {
   showMoment(moment);
+  showLastLine("");
   write("when", `Previous run, at instruction ${grouped(moment.at)}`);
   writeWhole("mode-text", "Previous run. Press x for the run that is open.");
 }
@@ -177,7 +181,8 @@ function pastMode({ state }) {
 }
 
 /** @param {Frame} frame */
-function modeOf({ state, on, isReplay, ahead, full, isAtLastCount }) {
+function modeOf(frame) {
+  const { state, on, isReplay, ahead, full, isAtLastCount } = frame;
   const stop = field(state, AT.stop);
   const then = full?.isEnd ? "What comes after is not recorded." : "The machine takes no more.";
   if (full) return ["LIMIT REACHED", `at ${grouped(full.count)}: ${full.why}. ${then}`];
@@ -186,7 +191,15 @@ function modeOf({ state, on, isReplay, ahead, full, isAtLastCount }) {
   if (stop) return ["STOPPED", `${stopText(state)}. The machine does nothing more.${never}`];
   if (isAtLastCount) return ["LIMIT REACHED", `at ${grouped(countOf(state))}: no count comes after this one, so the machine does nothing more.${never}`];
   if (on) return ["LIVE", "What you type, click and send is recorded."];
+  if (isDone(frame) && !isToGoOn) return ["DONE", `Done at ${endText(field(state, AT.PC))}, which jumps to itself: nothing more happens.`];
   return ["PAUSED", isToGoOn ? "Press a key to resume." : "Keys and the mouse go to the machine while it runs."];
+}
+
+/** Says where a program ends: by its line, if that is known.
+ * @param {number} pc */
+function endText(pc) {
+  const { line } = lineOf(4 * pc) ?? {};
+  return line ? `line ${line}` : `PC ${pc}`;
 }
 
 offer({ moveCursor, backToNow });

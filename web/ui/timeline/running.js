@@ -2,6 +2,7 @@
 /* Runs the machine, and what is done with a machine that runs. */
 import { app } from "../../host/app.js";
 import { branchOff } from "./branches.js";
+import { leaveVerdicts } from "../screen/verdicts.js";
 import { offer } from "../../host/commands.js";
 import { catchUp } from "../screen/devices.js";
 import { el, notice } from "../../host/elements.js";
@@ -39,7 +40,7 @@ export async function takeOver() {
   const answer = await app.live.ask("takeOver");
   if (!answer) return;
   if (app.work.head) branchOff(nowCount(), answer);
-  else await Object.assign(app.work, { fork: answer.fork, base: null }).follow(answer.begun);
+  else leaveVerdicts(nowCount()), await Object.assign(app.work, { fork: answer.fork, base: null }).follow(answer.begun);
   el("screen").focus({ preventScroll: true });
 }
 
