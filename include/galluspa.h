@@ -54,7 +54,7 @@ enum {
     GALLUSPA_TOO_MUCH_OUTPUT = 8,      /* .. more than 1,048,576 bytes sent */
     GALLUSPA_TOO_MANY_PAGES = 9,       /* .. more than 65,536 pages */
     GALLUSPA_PENDING_INPUTS = 10,      /* the recording has inputs at or after its last checkpoint */
-    GALLUSPA_NOT_FOUND = 11,           /* of galluspa_find and galluspa_past_find: no condition holds at any of the counts */
+    GALLUSPA_NOT_FOUND = 11,           /* of a search: no condition holds at any of the counts; of galluspa_past_write: there is no write */
     GALLUSPA_MORE = 12,                /* of a galluspa_past: a part is done; call again to go on */
     GALLUSPA_CLOSED = 13,              /* of a galluspa_past: none is open */
     GALLUSPA_LATER = 14                /* of a galluspa_past: a count is after its end */
@@ -173,8 +173,13 @@ enum {
     GALLUSPA_IS = 11,       /* the machine runs, and before the instruction the register from, as of GALLUSPA_BECOMES, has one of the values
                              * from least up to most. They go round: 0 comes after 0xFFFFFFFF, so signed numbers have ranges, too, and the
                              * values from v + 1 up to v - 1 are all but v. Those of the flags are below 16 */
-    GALLUSPA_IS_WORD = 12   /* so do the bits of a word of RAM that value, a mask, names; its other bits count as 0. from is its address, a
+    GALLUSPA_IS_WORD = 12,  /* so do the bits of a word of RAM that value, a mask, names; its other bits count as 0. from is its address, a
                              * multiple of 4 below 2^20. A mask of 0 is refused */
+    GALLUSPA_ALTERS = 13,   /* the instruction changes a bit of the register from, as of GALLUSPA_BECOMES, and value, a mask, names the
+                             * bit. A mask of 0 is refused, and for the flags one that is not below 16 */
+    GALLUSPA_WRITES_FLAGS = 14 /* it writes a flag that value, a mask, names, whatever the flag becomes, and does not stop the machine.
+                             * N is 8, Z 4, C 2 and V 1: N and Z are written with each of R0 to R15, C and V by sums and differences
+                             * alone. value is 1 to 15 */
 };
 
 /* Is added to the kind of a condition that is joined to the next one of the list: they hold where both hold. At most four are joined
@@ -440,7 +445,7 @@ uint8_t galluspa_past_near(galluspa_past *past, uint64_t at, uint64_t from, gall
 
 /* Adds inputs to a past, after those that it has: for a live machine, whose inputs come while it runs. None is below the end of the
  * past or the count of an input that it has; else they are as for galluspa_advance. Returns GALLUSPA_DONE; or GALLUSPA_OUT_OF_RANGE,
- * GALLUSPA_CLOSED or GALLUSPA_OUT_OF_MEMORY (never for inputs that galluspa_advance refuses), and then none is added. */
+ * GALLUSPA_CLOSED or GALLUSPA_OUT_OF_MEMORY (only for inputs that come next), and then none is added. */
 uint8_t galluspa_past_input(galluspa_past *past, const galluspa_input *inputs, size_t inputs_len);
 
 /* Runs on from the end of the past to the count to, which becomes its end, with the inputs of these counts. The bytes that the machine
@@ -479,8 +484,8 @@ uint8_t galluspa_past_branch(galluspa_past *past, uint64_t at, galluspa_past *br
  * Call again with *progress in place of from, or of to for the last, to go on: the answer is that about the whole range.
  *
  * Else it is GALLUSPA_OUT_OF_RANGE if from is before the first count or after to, budget is 0, or wanted or the conditions are as
- * galluspa_find refuses them; GALLUSPA_LATER if to is after the end; GALLUSPA_CLOSED; or GALLUSPA_OUT_OF_MEMORY (only if all is in
- * range). Then nothing is written. */
+ * galluspa_find refuses them; GALLUSPA_LATER if to is after the end: then the past is exactly as it was; GALLUSPA_CLOSED; or
+ * GALLUSPA_OUT_OF_MEMORY (only if all is in range): then keyframes may have been added. Then nothing is written. */
 uint8_t galluspa_past_find(galluspa_past *past, uint64_t from, uint64_t to, const galluspa_condition *conditions,
                            size_t conditions_len, uint32_t wanted, uint64_t budget, galluspa_hit *hit, uint64_t *progress);
 
@@ -493,6 +498,48 @@ uint8_t galluspa_past_find(galluspa_past *past, uint64_t from, uint64_t to, cons
  * galluspa_past_find does, GALLUSPA_OUT_OF_RANGE also if hits_len is 0, and nothing is written. */
 uint8_t galluspa_past_hits(galluspa_past *past, uint64_t *from, uint64_t to, const galluspa_condition *conditions,
                            size_t conditions_len, uint64_t budget, galluspa_hit *hits, size_t hits_len, size_t *hits_count);
+
+/* A part of a machine, whose writes galluspa_past_write finds. */
+enum {
+    GALLUSPA_REGISTER = 1, /* the bits of a register that mask names: first is the register, as of GALLUSPA_BECOMES. R0 to R15 and H are
+                            * written whole; the flags as for GALLUSPA_WRITES_FLAGS. A mask of 0 is refused, and for the flags one that is
+                            * not below 16 */
+    GALLUSPA_WORD = 2,     /* the bits of a word of RAM that mask names: first is its address, a multiple of 4 below 2^20. A store of a
+                            * byte writes the word if mask names a bit of this byte. A mask of 0 is refused */
+    GALLUSPA_LEDS = 3,     /* the LEDs: each store to their device word writes them */
+    GALLUSPA_INPUTS = 4,   /* what inputs of a kind set: first is the kind, 1 to 6, as in galluspa_input. The machine does not take those of
+                            * counts at which it is stopped */
+    GALLUSPA_STOP = 5      /* why the machine stopped */
+};
+
+/* Such a part: 12 bytes. Fields that its kind does not name are not read. */
+typedef struct {
+    uint32_t kind;      /* which part */
+    uint32_t first;     /* the register, the address of the word, or the kind of input */
+    uint32_t mask;      /* which bits of it */
+} galluspa_part;
+
+/* A write of a part: 24 bytes. */
+typedef struct {
+    uint64_t count;     /* the count of the instruction that writes the part, or of the input */
+    uint64_t by;        /* 0 if the instruction writes it, and 1 if an input does */
+    uint64_t input;     /* the index of the input among those of the past: the last of its kind at this count; 0 for an instruction */
+} galluspa_write;
+
+/* Finds the last write of a part before the count before, from the first count of the past on. If changing is 1, it is the last one that
+ * changed a bit that the mask names, of a register or of a word; each write of another part counts as a change. changing is 0 or 1.
+ *
+ * The search goes from keyframe to keyframe, backward from before, so that a late write is found soon; for the write before that, ask
+ * about its count. budget is as for a galluspa_past_find of the last count. Returns GALLUSPA_DONE, and writes the write;
+ * GALLUSPA_NOT_FOUND if there is none, so that the part is as it was at the first count; or GALLUSPA_MORE if the budget is spent, and
+ * writes *progress: there is no such write from it on. Call again with *progress in place of before to go on: the answer is that about
+ * before.
+ *
+ * Else it is GALLUSPA_OUT_OF_RANGE if before is before the first count, changing is above 1, budget is 0, or a number of the part is out
+ * of its range; GALLUSPA_LATER if before is after the end: then the past is exactly as it was; GALLUSPA_CLOSED; or GALLUSPA_OUT_OF_MEMORY
+ * (only if all is in range): then keyframes may have been added. Then nothing is written. */
+uint8_t galluspa_past_write(galluspa_past *past, const galluspa_part *part, uint32_t changing, uint64_t before, uint64_t budget,
+                            galluspa_write *write, uint64_t *progress);
 
 /* Records what the instructions of a past do, from the count *from up to but not including to: writes a record for each count to the
  * front of records, which is not empty, as galluspa_records does, and their number to *records_count. *from is then the count after the

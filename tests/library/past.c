@@ -121,11 +121,13 @@ static int answers(int which) {
 static void refuse_first(void) {
     galluspa_past past = {0};
     galluspa_extent was = {0}, is = {0};
+    galluspa_input early = {0, 4, 28};
     size_t count = 77;
     if (galluspa_past_begin(&past, &first, words, GALLUSPA_WORDS, SPACING) || call(5, &past, &count)) fail("it is not run");
     galluspa_past_extent(&past, &was);
     for (refused = 1; refused < 4; refused++) {
         calls = 0;
+        if (galluspa_past_input(&past, &early, 1) != GALLUSPA_OUT_OF_RANGE) fail("an input before the end");
         if (galluspa_past_run(&past, was.end - 1, 1, sent, sizeof sent, &count) != GALLUSPA_OUT_OF_RANGE) fail("a run back");
         galluspa_past_extent(&past, &is);
         if (calls || memcmp(&was, &is, sizeof is)) fail("what is out of range changes something");

@@ -20,9 +20,9 @@ use Rattle.oberon_past.specs.declared.called.Called.{Called}
 use Rattle.oberon_past.specs.declared.called.Called.TheVariants as called
 use Rattle.oberon_past.specs.declared.called.Calls.{Calls}
 use Rattle.oberon_past.specs.Run.{Run, state_at}
-use Rattle.galluspa.specs.Calls.{AreOpen}
+use Rattle.galluspa.specs.Calls.{AreLeftOpen}
 use Rattle.galluspa.specs.inner.Following.{AreCallsFrom, AreHeld, AreLeft, IsCalledFrom}
-use Rattle.galluspa.proofs.OpenLemmas.{open-left}
+use Rattle.galluspa.proofs.OpenLemmas.{left-open}
 
 -- ---- a step makes at most one call, and one turn
 
@@ -70,7 +70,7 @@ fits limit es from (suc n) s calls room height fit room_before height_before =
 
 -- ---- what is left
 
-left-of : (run : Run) (limit from to : ℕ) (calls : List Call) (room height : ℕ) (left : Calls) → AreOpen limit from calls → length calls ≤ height
+left-of : (run : Run) (limit from to : ℕ) (calls : List Call) (room height : ℕ) (left : Calls) → AreLeftOpen limit from calls → length calls ≤ height
     → AreCallsFrom run limit from to calls room height left → AreLeft limit room height left
 left-of run limit from to calls room height left are fit is =
     let s : State = state_at run from in
@@ -78,12 +78,12 @@ left-of run limit from to calls room height left are fit is =
     let turns_long = ap (λ (l : List Turn). length l) is.turns_are in
     let calls_long = ap (λ (l : List Call). length l) is.calls_are in
     record {
-      are_open = open-left limit run.inputs from to s calls left.log.calls.items room height left.log.turns.items left.next is are;
+      are_open = left-open limit run.inputs from to s calls left.log.calls.items room height left.log.turns.items left.next is are;
       calls = omega (arith, within.1, calls_long);
       turns = omega (arith, within.0, turns_long);
     }
 
-pub called-held : (run : Run) (end limit from to : ℕ) (calls : List Call) (room height : ℕ) (answer : Called) → AreOpen limit from calls → length calls ≤ height
+pub called-held : (run : Run) (end limit from to : ℕ) (calls : List Call) (room height : ℕ) (answer : Called) → AreLeftOpen limit from calls → length calls ≤ height
     → IsCalledFrom run end limit from to calls room height answer → AreHeld limit room height answer
 called-held run end limit from to calls room height (called.Done left) are fit is = left-of run limit from to calls room height left are fit is.1
 called-held run end limit from to calls room height (called.More left) are fit is = left-of run limit from left.next calls room height left are fit is.1

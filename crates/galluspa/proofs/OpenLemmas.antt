@@ -8,10 +8,11 @@ use Rattle.risc_model.specs.declared.call.Call.{Call}
 use Rattle.risc_model.specs.declared.call.Turn.{Turn}
 use Rattle.risc_model.specs.declared.event.Event.{Event}
 use Rattle.risc_model.specs.MachineState.{State}
-use Rattle.risc_model.specs.Calls.{next_is, call_from, open_after}
+use Rattle.risc_model.specs.Calls.{next_is, call_from}
 use Rattle.risc_model.specs.Turns.{IsFollowed, IsStack}
-use Rattle.risc_model.proofs.TurnLemmas.{stack-run, run-before, run-each}
-use Rattle.galluspa.specs.Calls.{AreOpen, IsPossible}
+use Rattle.risc_model.proofs.TurnLemmas.{run-each}
+use Rattle.oberon_past.proofs.CallsFollowed.{open-left}
+use Rattle.galluspa.specs.Calls.{AreLeftOpen, IsPossible}
 use Rattle.galluspa.specs.inner.Following.{IsAsDeep}
 
 -- R14 of a call is at most k, if it is one of the stack
@@ -21,7 +22,7 @@ IsUpTo limit k call = call.sp ≤ limit → call.sp ≤ k
 -- these calls may be the last open ones: `least` is the least of their counts and that up to which the run is, and `highest` the
 -- highest R14 of the stack among them
 pub record IsSeen (limit count least highest : ℕ) (later : List Call) : Type 0 where
-  pub are_open : AreOpen limit count later
+  pub are_open : AreLeftOpen limit count later
   pub below : (k : ℕ) → k < least → (k < count) × All (λ c. k < c.count) later
   pub least_is : (k : ℕ) → k < count → All (λ c. k < c.count) later → k < least
   pub above : (k : ℕ) → highest ≤ k → All (IsUpTo limit k) later
@@ -29,7 +30,7 @@ pub record IsSeen (limit count least highest : ℕ) (later : List Call) : Type 0
 
 pub seen-none : (limit count : ℕ) → IsSeen limit count count 0 []
 seen-none limit count = record {
-  are_open = record { stack = tt; earlier = All-nil (λ c. c.count < count); possible = All-nil IsPossible };
+  are_open = record { are_open = record { stack = tt; earlier = All-nil (λ c. c.count < count) }; possible = All-nil IsPossible };
   below = λ k less. (less, All-nil (λ c. k < c.count));
   least_is = λ k less all. less;
   above = λ k high. All-nil (IsUpTo limit k);
@@ -64,8 +65,10 @@ seen-next limit count least highest new call later before deep seen =
     let low = seen.above call.sp before.1 in
     record {
       are_open = record {
-        stack = (joined limit call later all.1 low, seen.are_open.stack);
-        earlier = All-cons (λ c. c.count < count) call later all.0 seen.are_open.earlier;
+        are_open = record {
+          stack = (joined limit call later all.1 low, seen.are_open.are_open.stack);
+          earlier = All-cons (λ c. c.count < count) call later all.0 seen.are_open.are_open.earlier;
+        };
         possible = All-cons IsPossible call later before.2 seen.are_open.possible;
       };
       below = λ k less.
@@ -93,11 +96,11 @@ seen-next limit count least highest new call later before deep seen =
     }
 
 -- a call that is open with them comes before them so
-pub open-before : (limit count least highest : ℕ) (call : Call) (later : List Call) → AreOpen limit count (call ∷ later) → IsSeen limit count least highest later
+pub open-before : (limit count least highest : ℕ) (call : Call) (later : List Call) → AreLeftOpen limit count (call ∷ later) → IsSeen limit count least highest later
     → (call.count < least) × (highest ≤ call.sp) × IsPossible call
 open-before limit count least highest call later are seen = (
-  seen.least_is call.count (All-head (λ c. c.count < count) call later are.earlier) (counts-of limit call later are.stack.0),
-  seen.highest_is call.sp (depths-of limit call later are.stack.0),
+  seen.least_is call.count (All-head (λ c. c.count < count) call later are.are_open.earlier) (counts-of limit call later are.are_open.stack.0),
+  seen.highest_is call.sp (depths-of limit call later are.are_open.stack.0),
   All-head IsPossible call later are.possible,
 )
 
@@ -106,10 +109,12 @@ stack-drop limit zero calls is = is
 stack-drop limit (suc n) [] is = tt
 stack-drop limit (suc n) (call ∷ later) is = stack-drop limit n later is.1
 
-pub open-drop : (limit count n : ℕ) (calls : List Call) → AreOpen limit count calls → AreOpen limit count (drop n calls)
+pub open-drop : (limit count n : ℕ) (calls : List Call) → AreLeftOpen limit count calls → AreLeftOpen limit count (drop n calls)
 open-drop limit count n calls are = record {
-  stack = stack-drop limit n calls are.stack;
-  earlier = All-drop (λ c. c.count < count) n calls are.earlier;
+  are_open = record {
+    stack = stack-drop limit n calls are.are_open.stack;
+    earlier = All-drop (λ c. c.count < count) n calls are.are_open.earlier;
+  };
   possible = All-drop IsPossible n calls are.possible;
 }
 
@@ -121,14 +126,9 @@ made-possible n t linking =
     (inside, let e : (t.cpu.pc + 1) % COUNTER_END ≡ t.cpu.pc + 1 = omega (arith, inside) in e)
 
 -- the calls that a run leaves open can be given to the next one
-pub open-left : (limit : ℕ) (es : List Event) (from to : ℕ) (s : State) (calls left : List Call) (room height : ℕ) (turns : List Turn) (next : ℕ)
-    → IsFollowed limit es from to s calls room height turns left next → AreOpen limit from calls → AreOpen limit next left
-open-left limit es from to s calls left room height turns next followed are =
-    let n : ℕ = next - from in
-    let whole : from + n ≡ next = omega (arith, followed.inside.0) in
-    let P : List Call → Type 0 = λ l. AreOpen limit next l in
-    subst P (sym followed.calls_are) (record {
-      stack = stack-run limit es from n s calls are.stack are.earlier;
-      earlier = subst (λ (k : ℕ). All (λ (c : Call). c.count < k) (open_after limit es from n s calls)) whole (run-before limit es from n s calls are.earlier);
-      possible = run-each IsPossible made-possible limit es from n s calls are.possible;
-    })
+pub left-open : (limit : ℕ) (es : List Event) (from to : ℕ) (s : State) (calls left : List Call) (room height : ℕ) (turns : List Turn) (next : ℕ)
+    → IsFollowed limit es from to s calls room height turns left next → AreLeftOpen limit from calls → AreLeftOpen limit next left
+left-open limit es from to s calls left room height turns next followed are = record {
+  are_open = open-left limit es from to s calls left room height turns next followed are.are_open;
+  possible = subst (All IsPossible) (sym followed.calls_are) (run-each IsPossible made-possible limit es from (next - from) s calls are.possible);
+}

@@ -1,12 +1,12 @@
 -- The calls of a run of a machine in the memory of a caller (this project's own choice).
 use Rattle.std.specs.Prelude.{ℕ, ◌≡◌, ◌<◌, ◌+◌, ◌-◌, ◌^◌, List, All, Option, None, Some, length, map, take}
-use Rattle.risc_machine.specs.CallLogs.{AreBefore}
 use Rattle.risc_model.specs.declared.call.Call.{Call}
 use Rattle.risc_model.specs.declared.call.Turn.{Turn}
 use Rattle.risc_model.specs.declared.event.Event.{Event}
 use Rattle.risc_model.specs.Replay.{run_of}
-use Rattle.risc_model.specs.Turns.{IsFollowed, IsStack}
+use Rattle.risc_model.specs.Turns.{IsFollowed}
 use Rattle.risc_pages.specs.declared.sizes.TheConstants.{MEMORY_WORDS}
+use Rattle.oberon_past.specs.Calls.{AreOpen}
 use Rattle.galluspa.specs.declared.calls.RawTurn.{RawTurn}
 use Rattle.galluspa.specs.declared.raw.RawInput.{RawInput}
 use Rattle.galluspa.specs.declared.raw.RawState.{RawState}
@@ -26,11 +26,10 @@ raw_turn turn = raw_turn_with turn.count turn.stay turn.call
 abbrev pub IsPossible : Call → Type 0
 IsPossible call = (call.at < MEMORY_WORDS) × (call.back ≡ call.at + 1)
 
--- calls that a run up to a count can have left open: each branch is in memory and returns to the next word, and they are a stack of calls
--- that were made before the count
-pub record AreOpen (limit count : ℕ) (calls : List Call) : Type 0 where
-  pub stack : IsStack limit calls
-  pub earlier : AreBefore count calls
+-- calls that a run up to a count can have left open: another run can be followed from them, and the branch of each is in memory and
+-- returns to the next word
+pub record AreLeftOpen (limit count : ℕ) (calls : List Call) : Type 0 where
+  pub are_open : AreOpen limit count calls
   pub possible : All IsPossible calls
 
 -- all that is given is in its range: what a run is given, so many open calls at the front of a list that has room for another one, and
@@ -40,7 +39,7 @@ pub record IsInCallsRange (inputs : List RawInput) (to limit : ℕ) (state : Raw
   pub run : IsInRange inputs to state words
   pub fits : count < length calls
   pub room_for_one : 0 < room
-  pub are_open : AreOpen limit state.count (take count calls)
+  pub are_open : AreLeftOpen limit state.count (take count calls)
 
 -- one run from the count of a state, with these inputs, from these open calls, up to the count of the new state: it is `to`, or the first
 -- count at which there is no room for another turn or call. The new state, the calls that are open then, and the turns

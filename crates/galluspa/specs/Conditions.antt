@@ -4,7 +4,7 @@ use Rattle.std.specs.Prelude.{List, All, Option, None, Some, IsSome, length, map
 use Rattle.risc_search.specs.declared.condition.Clause.{Clause}
 use Rattle.risc_search.specs.declared.condition.Condition.{Condition}
 use Rattle.risc_search.specs.declared.condition.Condition.TheVariants.{Counter, Store, Change, Load, Becomes}
-use Rattle.risc_search.specs.declared.condition.Condition.TheVariants.{Sends, SendsByte, Takes, Stops, Writes, Is, IsWord}
+use Rattle.risc_search.specs.declared.condition.Condition.TheVariants.{Sends, SendsByte, Takes, Stops, Writes, WritesFlags, Alters, Is, IsWord}
 use Rattle.risc_search.specs.declared.hit.Hit.{Hit}
 use Rattle.risc_search.specs.declared.register.Register.{Register}
 use Rattle.risc_search.specs.declared.register.Register.TheVariants.{Numbered, Auxiliary, Flags}
@@ -37,6 +37,13 @@ register_of number =
 -- a register is written
 abbrev pub writes : RawCondition → Option Condition
 writes c = option_map (λ register. Writes register) (register_of c.from)
+
+-- a bit that the mask names of a register has changed. A mask that names no bit is out of its range, and so is one of the flags that is
+-- not below 16
+abbrev pub alters : RawCondition → Option Condition
+alters c =
+    if c.value == 0 || (c.from == 17 && not (nat_lt c.value 16)) then None
+    else option_map (λ register. Alters register c.value) (register_of c.from)
 
 -- the values from the least up to the most
 abbrev pub values_of : RawCondition → Values
@@ -78,6 +85,8 @@ condition_of c =
     else if kind_of c == 10 then writes c
     else if kind_of c == 11 then is_value c
     else if kind_of c == 12 then is_word c
+    else if kind_of c == 13 then alters c
+    else if kind_of c == 14 then (if nat_le 1 c.value && nat_lt c.value (2 ^ 4) then Some (WritesFlags c.value) else None)
     else None
 
 -- the same with whether it is joined

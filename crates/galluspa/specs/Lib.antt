@@ -14,5 +14,6 @@ pub mod Past
 pub mod Live
 pub mod Ranges
 pub mod Searches
+pub mod Writes
 pub mod Laws
 pub mod inner

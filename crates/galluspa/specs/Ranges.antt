@@ -7,7 +7,7 @@ use Rattle.risc_pages.specs.declared.sizes.TheConstants.{MEMORY_WORDS}
 use Rattle.oberon_past.specs.Run.{Run, state_at}
 use Rattle.galluspa.specs.declared.calls.RawTurn.{RawTurn}
 use Rattle.galluspa.specs.declared.records.RawRecord.{RawRecord}
-use Rattle.galluspa.specs.Calls.{AreOpen, raw_turn}
+use Rattle.galluspa.specs.Calls.{AreLeftOpen, raw_turn}
 use Rattle.galluspa.specs.Records.{IsRecord}
 
 -- ---- what is asked
@@ -33,7 +33,7 @@ pub record IsCallsQuestion (from to limit budget : ℕ) (calls : List Call) (cou
   pub question : IsQuestion from to budget
   pub fits : count < length calls
   pub room_for_one : 0 < room
-  pub are_open : AreOpen limit from (take count calls)
+  pub are_open : AreLeftOpen limit from (take count calls)
 
 -- ---- what is answered
 

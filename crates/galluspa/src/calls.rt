@@ -4,7 +4,7 @@ ghost use Rattle.std.specs.Prelude.{All, IfErr, IfOk, IsTrue, OnErr, OnOk};
 ghost use Rattle.risc_machine.specs.CallLogs.{HasRoom, IsReserved};
 ghost use Rattle.risc_model.specs.MachineState.{cpu_state};
 ghost use Rattle.risc_pages.specs.declared.sizes.TheConstants.{MEMORY_WORDS};
-ghost use Rattle.galluspa.specs.Calls.{AreOpen, HasFollowed, IsInCallsRange, IsPossible, raw_turn};
+ghost use Rattle.galluspa.specs.Calls.{AreLeftOpen, HasFollowed, IsInCallsRange, IsPossible, raw_turn};
 ghost use Rattle.galluspa.specs.Raw.{IsWhole, IsWritten, cpu_of, devices_of, state_of};
 ghost use Rattle.galluspa.specs.inner.Following.{IsAsDeep, IsFollowedRun};
 
@@ -111,7 +111,7 @@ pub(crate) fn write_log(
 /// Reports whether a run up to a count can have left these calls open: each branch is in memory and returns to the next word, their
 /// counts rise and are below the count, and R14 falls along those whose R14 is at most `limit`.
 pub(crate) fn are_open(calls: &[Call], limit: u32, count: u64) -> bool
-    ensures { IsTrue result ↔ AreOpen limit count calls.now }
+    ensures { IsTrue result ↔ AreLeftOpen limit count calls.now }
 {
     // Of the calls from `next` on: the least count, and the highest R14 of the stack.
     let mut least = count;
@@ -161,7 +161,7 @@ fn follow_machine(
     requires room { HasRoom log.old }
     requires reserved { IsReserved log.old }
     requires fresh { log.old.turns.items ≡ [] }
-    requires are_open { AreOpen log.old.limit state.old.count log.old.calls.items }
+    requires are_open { AreLeftOpen log.old.limit state.old.count log.old.calls.items }
     ensures run { OnOk result (IsFollowedRun inputs.now to state.old words.old state.new words.new log.old log.new) }
     ensures unchanged { OnErr result ((state.new ≡ state.old) × (words.new ≡ words.old)) }
 {
@@ -193,7 +193,7 @@ fn follow_parts(
     requires room { HasRoom log.old }
     requires reserved { IsReserved log.old }
     requires fresh { log.old.turns.items ≡ [] }
-    requires are_open { AreOpen log.old.limit state.old.count log.old.calls.items }
+    requires are_open { AreLeftOpen log.old.limit state.old.count log.old.calls.items }
     ensures run { OnOk result (IsFollowedRun inputs.now to state.old words.old state.new words.new log.old log.new) }
     ensures unchanged { OnErr result ((state.new ≡ state.old) × (words.new ≡ words.old)) }
 {
@@ -218,7 +218,7 @@ fn follow(
     ensures followed { IfOk result (λ log. HasFollowed inputs.now to limit state.old words.old (take count calls.now) room (length calls.now)
         state.new words.new log.calls.items (map raw_turn log.turns.items)) }
     ensures written { OnOk result (IsWritten state.new words.new) }
-    ensures again { IfOk result (λ log. AreOpen limit state.new.count log.calls.items) }
+    ensures again { IfOk result (λ log. AreLeftOpen limit state.new.count log.calls.items) }
     ensures held { IfOk result (λ log. (length log.calls.items ≤ length calls.now) × (length log.turns.items ≤ room)) }
     ensures in_range { OnOk result (IsInCallsRange inputs.now to limit state.old words.old calls.now count room) }
     ensures unchanged { OnErr result ((state.new ≡ state.old) × (words.new ≡ words.old)) }
@@ -271,7 +271,7 @@ pub extern "C" fn galluspa_calls(
         HasFollowed inputs.now to limit state.old words.old (take calls_count.old calls.old) (length turns.old) (length calls.old)
         state.new words.new (take calls_count.new calls.new) (take turns_count.new turns.new) }
     ensures written { result ≡ DONE → IsWritten state.new words.new }
-    ensures again { result ≡ DONE → AreOpen limit state.new.count (take calls_count.new calls.new) }
+    ensures again { result ≡ DONE → AreLeftOpen limit state.new.count (take calls_count.new calls.new) }
     ensures room { result ≡ DONE → (calls_count.new ≤ length calls.old) × (turns_count.new ≤ length turns.old) }
     ensures rest { result ≡ DONE →
         (drop calls_count.new calls.new ≡ drop calls_count.new calls.old) × (drop turns_count.new turns.new ≡ drop turns_count.new turns.old) }

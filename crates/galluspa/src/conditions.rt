@@ -1,6 +1,6 @@
 //! The conditions of a search in the memory of a caller, and what it finds.
 ghost use Rattle.std.specs.Prelude.{◌≡◌, ◌↔◌, IfOk, IsTrue, map};
-ghost use Rattle.galluspa.specs.Conditions.{AreClauses, AreConditions, AreEachConditions, AreJoinable, becomes, changes, clause_of, condition_of, is_joined};
+ghost use Rattle.galluspa.specs.Conditions.{AreClauses, AreConditions, AreEachConditions, AreJoinable, alters, becomes, changes, clause_of, condition_of, is_joined};
 ghost use Rattle.galluspa.specs.Conditions.{is_value, is_word, register_of, span_of, values_of, writes};
 
 use risc_search::{Clause, Condition, Register, Span, Values};
@@ -31,6 +31,10 @@ const MAX_JOINED: u32 = 4;
 /// | 10 | it writes a register, whatever the value, and does not stop the machine | `from`: the register, as of 5 |
 /// | 11 | the machine runs, and before the instruction a register has one of these values | `from`: the register, as of 5; `least`, `most` |
 /// | 12 | and so do the bits of a word of RAM that the mask names | `from`: its address; `value`: the mask, not 0; `least`, `most` |
+/// | 13 | a bit of a register that the mask names differs after the instruction | `from`: the register, as of 5; `value`: the mask, not 0 |
+/// | 14 | it writes a flag that the mask names, and does not stop the machine | `value`: the mask, 1 to 15 |
+///
+/// The mask of kind 13 is below 16 for the flags.
 #[repr(C)]
 #[derive(Clone, Copy)]
 pub struct RawCondition {
@@ -94,7 +98,7 @@ fn becomes(raw: &RawCondition) -> Option<Condition>
     }
 }
 
-fn register_of(number: u32) -> Option<Register>
+pub(crate) fn register_of(number: u32) -> Option<Register>
     ensures { result ≡ register_of number }
 {
     match number {
@@ -110,6 +114,18 @@ fn writes(raw: &RawCondition) -> Option<Condition>
 {
     match register_of(raw.from) {
         Some(register) => Some(Condition::Writes(register)),
+        None => None,
+    }
+}
+
+fn alters(raw: &RawCondition) -> Option<Condition>
+    ensures { result ≡ alters raw.now }
+{
+    if raw.value == 0 || raw.from == 17 && raw.value >= 16 {
+        return None;
+    }
+    match register_of(raw.from) {
+        Some(register) => Some(Condition::Alters(register, raw.value)),
         None => None,
     }
 }
@@ -171,6 +187,8 @@ fn condition_of(raw: &RawCondition) -> Option<Condition>
         10 => writes(raw),
         11 => is_value(raw),
         12 => is_word(raw),
+        13 => alters(raw),
+        14 if 1 <= raw.value && raw.value < 16 => Some(Condition::WritesFlags(raw.value)),
         _ => None,
     }
 }

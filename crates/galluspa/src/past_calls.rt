@@ -4,7 +4,7 @@ ghost use Rattle.risc_model.specs.declared.call.Call.{Call};
 ghost use Rattle.oberon_past.specs.Calls.{AdvancesCalls};
 ghost use Rattle.oberon_past.specs.Past.{IsLonger};
 ghost use Rattle.oberon_past.specs.Search.{IsRange};
-ghost use Rattle.galluspa.specs.Calls.{AreOpen, raw_turn};
+ghost use Rattle.galluspa.specs.Calls.{AreLeftOpen, raw_turn};
 ghost use Rattle.galluspa.specs.Past.{Holds, HoldsBoth, IsClosed, Keeps};
 ghost use Rattle.galluspa.specs.Ranges.{HasCalls, IsCallsQuestion};
 ghost use Rattle.galluspa.specs.inner.Asking.{IsUnanswered};
@@ -113,7 +113,7 @@ pub extern "C" fn galluspa_past_calls(
         Holds (λ p. HasCalls p.run limit from.old from.new (take calls_count.old calls.old) (length turns.old) (length calls.old)
         (take calls_count.new calls.new) (take turns_count.new turns.new) from.new) past.old }
     ensures part { result ≡ MORE → (from.new < to) × (calls_count.new < length calls.old) × (turns_count.new < length turns.old) }
-    ensures again { (result ≡ DONE) ⊎ (result ≡ MORE) → AreOpen limit from.new (take calls_count.new calls.new) }
+    ensures again { (result ≡ DONE) ⊎ (result ≡ MORE) → AreLeftOpen limit from.new (take calls_count.new calls.new) }
     ensures room { (result ≡ DONE) ⊎ (result ≡ MORE) →
         (calls_count.new ≤ length calls.old) × (turns_count.new ≤ length turns.old) }
     ensures rest { (result ≡ DONE) ⊎ (result ≡ MORE) →

@@ -3,7 +3,7 @@ ghost use Rattle.std.specs.Prelude.{◌≡◌, ◌≢◌, ◌≤◌, ◌<◌, �
 ghost use Rattle.oberon_past.specs.Past.{IsLonger};
 ghost use Rattle.oberon_past.specs.Search.{Advances, IsRange};
 ghost use Rattle.galluspa.specs.Conditions.{hit_of};
-ghost use Rattle.galluspa.specs.Past.{Holds, HoldsBoth, IsClosed};
+ghost use Rattle.galluspa.specs.Past.{Holds, HoldsBoth, IsClosed, Keeps};
 ghost use Rattle.galluspa.specs.Searches.{HasFound, IsSearch, which_of};
 ghost use Rattle.galluspa.specs.inner.Asking.{IsUnanswered};
 
@@ -44,6 +44,7 @@ fn find_in(
         (1 < wanted) ⊎ ¬ (IsSearch conditions.now from to budget × (past.old.run.start ≤ from))) }
     ensures refused { IfErr result (λ refusal. refusal ≢ Unanswered.Range →
         (wanted ≤ 1) × IsUnanswered past.old (IsSearch conditions.now from to budget) from to refusal) }
+    ensures unmoved { IfErr result (λ refusal. refusal ≢ Unanswered.Memory → past.new ≡ past.old) }
     ensures longer { IsLonger past.old past.new }
     ensures advances { IfOk result (Advances past.old past.new (which_of wanted) from to) }
 {
@@ -66,8 +67,8 @@ fn find_in(
 ///
 /// Nothing else is written. The result is 13 (`CLOSED`) if no past is open; 1 (`OUT_OF_RANGE`) if `from` is before the first count or
 /// after `to`, `wanted` is above 1, the budget is 0, there are more than 64 conditions, one is out of its range, or they are not joined
-/// as they may be; else 14 (`LATER`) if `to` is after the end; and 3 (`OUT_OF_MEMORY`) if all is in range and memory ran out. The past
-/// stays open, of the same run.
+/// as they may be; else 14 (`LATER`) if `to` is after the end; and then the past stays as it is. It is 3 (`OUT_OF_MEMORY`) if all is in
+/// range and memory ran out: then keyframes may have been added. The past stays open, of the same run.
 #[unsafe(no_mangle)]
 pub extern "C" fn galluspa_past_find(
     alloc: Global,
@@ -87,7 +88,7 @@ pub extern "C" fn galluspa_past_find(
     ensures advances { result ≡ MORE →
         HoldsBoth (λ old new. Advances old new (which_of wanted) from to (Found.More progress.new)) past.old past.new }
     ensures unchanged { result ≢ DONE → hit.new ≡ hit.old }
-    ensures unmoved { result ≢ MORE → progress.new ≡ progress.old }
+    ensures unprogressed { result ≢ MORE → progress.new ≡ progress.old }
     ensures closed { result ≡ CLOSED ↔ IsClosed past.old }
     ensures range { result ≡ OUT_OF_RANGE →
         (1 < wanted) ⊎ Holds (λ p. ¬ (IsSearch conditions.now from to budget × (p.run.start ≤ from))) past.old }
@@ -97,6 +98,7 @@ pub extern "C" fn galluspa_past_find(
     ensures later { result ≡ LATER → Holds (λ p. p.end < to) past.old }
     ensures inside { result ≢ CLOSED → result ≢ OUT_OF_RANGE → result ≢ LATER → Holds (λ p. to ≤ p.end) past.old }
     ensures longer { result ≢ CLOSED → HoldsBoth IsLonger past.old past.new }
+    ensures unmoved { (result ≡ OUT_OF_RANGE) ⊎ (result ≡ LATER) → Keeps past.old past.new }
     ensures kept { result ≡ CLOSED → past.new ≡ past.old }
     ensures codes { (result ≤ OUT_OF_RANGE) ⊎ (result ≡ OUT_OF_MEMORY) ⊎ ((NOT_FOUND ≤ result) × (result ≤ LATER)) }
 {

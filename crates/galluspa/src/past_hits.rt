@@ -3,7 +3,7 @@ ghost use Rattle.std.specs.Prelude.{◌≡◌, ◌≢◌, ◌≤◌, ◌<◌, �
 ghost use Rattle.oberon_past.specs.Past.{IsLonger};
 ghost use Rattle.oberon_past.specs.Search.{AdvancesAll, IsRange};
 ghost use Rattle.galluspa.specs.Conditions.{hit_of};
-ghost use Rattle.galluspa.specs.Past.{Holds, HoldsBoth, IsClosed};
+ghost use Rattle.galluspa.specs.Past.{Holds, HoldsBoth, IsClosed, Keeps};
 ghost use Rattle.galluspa.specs.Searches.{HaveFound, HaveWritten, IsSearch};
 ghost use Rattle.galluspa.specs.inner.Asking.{IsUnanswered};
 
@@ -35,6 +35,7 @@ fn hits_in(
         (room ≡ 0) ⊎ ¬ (IsSearch conditions.now from to budget × (past.old.run.start ≤ from))) }
     ensures refused { IfErr result (λ refusal. refusal ≢ Unanswered.Range →
         (0 < room) × IsUnanswered past.old (IsSearch conditions.now from to budget) from to refusal) }
+    ensures unmoved { IfErr result (λ refusal. refusal ≢ Unanswered.Memory → past.new ≡ past.old) }
     ensures longer { IsLonger past.old past.new }
     ensures advances { IfOk result (AdvancesAll past.old past.new from) }
 {
@@ -101,6 +102,7 @@ pub extern "C" fn galluspa_past_hits(
     ensures later { result ≡ LATER → Holds (λ p. p.end < to) past.old }
     ensures inside { result ≢ CLOSED → result ≢ OUT_OF_RANGE → result ≢ LATER → Holds (λ p. to ≤ p.end) past.old }
     ensures longer { result ≢ CLOSED → HoldsBoth IsLonger past.old past.new }
+    ensures unmoved { (result ≡ OUT_OF_RANGE) ⊎ (result ≡ LATER) → Keeps past.old past.new }
     ensures kept { result ≡ CLOSED → past.new ≡ past.old }
     ensures codes { (result ≤ OUT_OF_RANGE) ⊎ (result ≡ OUT_OF_MEMORY) ⊎ ((MORE ≤ result) × (result ≤ LATER)) }
 {

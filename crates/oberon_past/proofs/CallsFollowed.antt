@@ -14,7 +14,7 @@ use Rattle.oberon_past.specs.Calls.{AreCalls, AreOpen}
 use Rattle.oberon_past.specs.Run.{Run, state_at}
 
 -- the calls that a run leaves open can be given to the next one
-open-left : (limit : ℕ) (es : List Event) (from to : ℕ) (s : State) (calls left : List Call) (room height : ℕ) (followed : List Turn) (next : ℕ)
+pub open-left : (limit : ℕ) (es : List Event) (from to : ℕ) (s : State) (calls left : List Call) (room height : ℕ) (followed : List Turn) (next : ℕ)
     → IsFollowed limit es from to s calls room height followed left next → AreOpen limit from calls → AreOpen limit next left
 open-left limit es from to s calls left room height followed next is are =
     let n : ℕ = next - from in

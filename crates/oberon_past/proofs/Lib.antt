@@ -5,11 +5,12 @@ mod Pages
 mod Inputs
 mod Cutting
 mod Following
+mod NextInputs
 mod Staying
 mod Adding
 mod Searches
 mod Written
 mod Traces
 mod Counting
-mod CallsFollowed
+pub mod CallsFollowed
 mod Drafts

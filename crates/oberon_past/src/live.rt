@@ -1,6 +1,7 @@
 //! A past that changes: a branch of it, more inputs, a run that goes on, and a cut. So it is the past of a live machine.
-ghost use Rattle.std.specs.Prelude.{◌≡◌, ◌≢◌, ◌<◌, ◌≤◌, ◌↔◌, IfErr, IfNone, IfOk, IfSome, IsTrue, OnErr, OnOk, length};
-ghost use Rattle.risc_model.specs.InputOrder.{count_before};
+ghost use Rattle.std.specs.Prelude.{◌≡◌, ◌≢◌, ◌<◌, ◌≤◌, ◌↔◌, List, All, IfErr, IfNone, IfOk, IfSome, IsTrue, OnErr, OnOk, length};
+ghost use Rattle.risc_model.specs.declared.event.Event.{Event};
+ghost use Rattle.risc_model.specs.InputOrder.{AreOrdered, count_before};
 ghost use Rattle.oberon_past.specs.declared.progress.Ending.{Ending};
 ghost use Rattle.oberon_past.specs.Live.{AreNext, HasInputs, HasRun, IsBranchFault, IsInputFault, IsOutside, IsRunFault, IsUpTo};
 ghost use Rattle.oberon_past.specs.Past.{IsLonger};
@@ -224,4 +225,16 @@ fn ending(end: u64, within: u64, to: u64) -> Ending
         return Ending::More;
     }
     Ending::NoRoom
+}
+
+impl Past {
+    /// Returns the least count that an input may have that is added: the end of the past, or the count of its last input if that is
+    /// later.
+    pub fn next_input(&self) -> u64
+        // Inputs come next if and only if they are in order, and none of them has a lower count.
+        ensures { (inputs : List Event) →
+            AreNext self.now inputs ↔ (AreOrdered inputs × All (λ (e : Event). result ≤ e.count) inputs) }
+    {
+        last_count(self.inputs.events()).max(self.end)
+    }
 }

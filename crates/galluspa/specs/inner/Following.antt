@@ -11,7 +11,7 @@ use Rattle.oberon_past.specs.declared.called.Calls.{Calls}
 use Rattle.oberon_past.specs.Run.{Run, state_at}
 use Rattle.oberon_past.specs.Search.{IsOutOfRange, IsRange}
 use Rattle.galluspa.specs.declared.raw.RawState.{RawState}
-use Rattle.galluspa.specs.Calls.{AreOpen}
+use Rattle.galluspa.specs.Calls.{AreLeftOpen}
 use Rattle.galluspa.specs.Raw.{IsWritten, state_of}
 
 -- the highest R14 of the stack, with one call more
@@ -26,7 +26,7 @@ pub record IsFollowedRun (events : List Event) (to : ℕ) (old : RawState) (old_
   pub state_is : state_of new new_words ≡ run_of events old.count (new.count - old.count) (state_of old old_words)
   pub written : IsWritten new new_words
   pub held : (length left.calls.items ≤ begun.height) × (length left.turns.items ≤ begun.room)
-  pub are_open : AreOpen begun.limit new.count left.calls.items
+  pub are_open : AreLeftOpen begun.limit new.count left.calls.items
 
 -- ---- calls of a past
 
@@ -46,7 +46,7 @@ IsCalledFrom run end limit from to calls room height (called.OutOfRange fault) =
 
 -- another run can be followed from the calls that are left, and there is room for what is written to a caller
 pub record AreLeft (limit room height : ℕ) (left : Calls) : Type 0 where
-  pub are_open : AreOpen limit left.next left.log.calls.items
+  pub are_open : AreLeftOpen limit left.next left.log.calls.items
   pub calls : length left.log.calls.items ≤ height
   pub turns : length left.log.turns.items ≤ room
 

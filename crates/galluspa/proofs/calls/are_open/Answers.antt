@@ -1,7 +1,7 @@
 use Rattle.std.proofs.Common.{◌≡◌, ◌<◌, ◌-◌, ℕ, suc, true, false, List, ◌∷◌, length, drop, get_or, drop-cons, refl, ap, sym, subst, ◌∙◌, arith}
 use Rattle.std.proofs.lemmas.List.{drop_all}
 use Rattle.risc_model.specs.declared.call.Call.{Call}
-use Rattle.galluspa.specs.Calls.{AreOpen}
+use Rattle.galluspa.specs.Calls.{AreLeftOpen}
 use Rattle.galluspa.proofs.InputLemmas.{untrue}
 use Rattle.galluspa.proofs.OpenLemmas.{IsSeen, seen-none, seen-next, open-before, open-drop}
 use Rattle.galluspa.proofs.calls.are_open.Goals as goal
@@ -37,7 +37,7 @@ returns-then-not-comes_before c = untrue (λ are.
     let calls : List Call = c.args.calls.now in
     let j : ℕ = c.loop-next.next - 1 in
     let inside : j < length calls = omega (arith, c.loop-next.invariant.inside, c.loop-next-test.true) in
-    let rest = subst (AreOpen c.args.limit c.args.count) (split calls j c.loop-next.next (omega (arith, c.loop-next-test.true)) inside) (open-drop c.args.limit c.args.count j calls are) in
+    let rest = subst (AreLeftOpen c.args.limit c.args.count) (split calls j c.loop-next.next (omega (arith, c.loop-next-test.true)) inside) (open-drop c.args.limit c.args.count j calls are) in
     let before = open-before c.args.limit c.args.count c.loop-next.least c.loop-next.highest (get_or calls j none) (drop c.loop-next.next calls) rest c.loop-next.invariant.seen in
     let comes : c.comes_before.result ≡ true = c.comes_before.ensures.1 before in
     let not : false ≡ true = sym c.if-not-comes_before.true ∙ comes in
@@ -46,5 +46,5 @@ returns-then-not-comes_before c = untrue (λ are.
 pub returns : goal.returns
 returns c =
     let last : c.loop-next.next ≡ 0 = omega (arith, c.loop-next-test.false) in
-    let P : ℕ → Type 0 = λ k. AreOpen c.args.limit c.args.count (drop k c.args.calls.now) in
+    let P : ℕ → Type 0 = λ k. AreLeftOpen c.args.limit c.args.count (drop k c.args.calls.now) in
     (λ _. subst P last c.loop-next.invariant.seen.are_open, λ _. refl)

@@ -2,10 +2,10 @@ use Rattle.std.proofs.Common.{◌≡◌, ◌∙◌, ◌-◌, ℕ, List, ap, leng
 use Rattle.risc_model.specs.MachineState.{State}
 use Rattle.risc_model.specs.Replay.{run_of}
 use Rattle.risc_model.specs.Turns.{IsFollowed}
-use Rattle.galluspa.specs.Calls.{AreOpen}
+use Rattle.galluspa.specs.Calls.{AreLeftOpen}
 use Rattle.galluspa.specs.Raw.{cpu_of, devices_of, state_of}
 use Rattle.galluspa.specs.declared.raw.RawState.{RawState}
-use Rattle.galluspa.proofs.OpenLemmas.{open-left}
+use Rattle.galluspa.proofs.OpenLemmas.{left-open}
 use Rattle.galluspa.proofs.WordLemmas.{slots_inside, with_pages-delta}
 use Rattle.galluspa.proofs.calls.follow_machine.Goals as goal
 
@@ -44,6 +44,6 @@ returns-clause-run c =
         padded = c.state_of.ensures.padded;
       };
       held = c.in-Ok.ensures.within;
-      are_open = subst (λ (n : ℕ). AreOpen log.limit n left.calls.items) count
-          (open-left log.limit es from c.args.to s log.calls.items left.calls.items log.room log.height left.turns.items next followed c.requires.are_open);
+      are_open = subst (λ (n : ℕ). AreLeftOpen log.limit n left.calls.items) count
+          (left-open log.limit es from c.args.to s log.calls.items left.calls.items log.room log.height left.turns.items next followed c.requires.are_open);
     }
