@@ -9,8 +9,9 @@ from array import array
 from collections.abc import Callable, Iterator, Sequence
 from dataclasses import dataclass
 from pathlib import Path
+from typing import Any
 
-from galluspa.engine.machine import LONGEST_WAIT, MOST_STEPS, SLICE_SECONDS
+from galluspa.engine.machine import MOST_STEPS, SLICE_SECONDS
 from galluspa.engine.machine import Inputs, Machine, Profile, Sent, slice_end, steps_after
 from galluspa.engine.structures import CALLS, SIZE, Counts, RawHit, RawRecord, RawState, RawTurn, Words
 from galluspa.formats.recording import WORDS
@@ -55,7 +56,7 @@ def sized(array: ctypes.Array | bytes) -> tuple[object, int]:
     return array, len(array)
 
 
-def _given(*values: object) -> Iterator[object]:
+def _given(*values: Any) -> Iterator[object]:
     """Yields the arguments by which a call has values: an array and its length, the address of anything else that it fills, a number."""
     for it in values:
         yield from sized(it) if isinstance(it, ctypes.Array) else (it if isinstance(it, int) else ctypes.byref(it),)
