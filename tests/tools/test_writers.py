@@ -3,8 +3,9 @@
 from collections.abc import Sequence
 from dataclasses import replace
 
-from galluspa.analysis.rawconditions import REGISTER_NUMBERS
-from galluspa.analysis.lastwrites import first_change, last_change, last_write, last_writer
+from galluspa.analysis.lastwrites import last_write
+from galluspa.analysis.rawconditions import REGISTER_NUMBERS, changing
+from galluspa.analysis.search import Search
 from galluspa.engine.tracing import Run, Step
 from galluspa.formats import states
 from tests.programs import randomly
@@ -58,9 +59,9 @@ class WritersTest(ToolTest):
         )  # fmt: skip
         run = run_of(record(session(words, [3000])))
         for to in (7, 9, 3000):
-            found = last_writer(run, "R9", 0, to)
-            self.assertEqual(found.before.count if found else None, 6)
-        self.assertIsNone(last_writer(run, "R9", 0, 6))
+            found = last_write(run, "R9", 0, to)
+            self.assertEqual(found.step.before.count if found else None, 6)
+        self.assertIsNone(last_write(run, "R9", 0, 6))
 
     def test_a_long_run_is_passed_over(self) -> None:
         run = run_of(record(session((0x43000000, 0x40080001, 0xE7FFFFFE), [30_000_000])))
@@ -76,9 +77,9 @@ class WritersTest(ToolTest):
             for name in REGISTER_NUMBERS:
                 values = [(states.values(it.before)[name], states.values(it.after)[name]) for it in steps[first:to]]
                 counts = [first + at for at, (old, new) in enumerate(values) if old != new]
-                found = first_change(run, name, first, to), last_change(run, name, first, to)
+                search = Search(run, [changing(name)], first, to)
                 wanted = (counts[0], counts[-1]) if counts else (None, None)
-                self.assertEqual(tuple(it.at if it else None for it in found), wanted, (name, first, to))
+                self.assertEqual(tuple(it and it.count for it in (search.first(), search.last())), wanted, (name, first, to))
 
 
 class SameValueTest(ToolTest):

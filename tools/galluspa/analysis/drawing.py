@@ -6,14 +6,13 @@ A bitmap has the dots of the screen as the program draws them: a bit for each, r
 from bisect import bisect_right
 from collections.abc import Iterable, Iterator, Sequence
 from dataclasses import dataclass
-from time import monotonic
 
 from galluspa.formats.screens import HEAD, HEIGHT, ROW, WIDTH
 from galluspa.analysis.rawconditions import CHANGE, Condition, Raw
 from galluspa.analysis.search import array_of
 from galluspa.engine.following import NO_CALL, Follower
 from galluspa.engine.library import Library
-from galluspa.engine.machine import Inputs, Machine, slice_end, steps_after
+from galluspa.engine.machine import Inputs, Machine
 from galluspa.engine.recorded import steps_at
 from galluspa.formats.recording import DISPLAY_END, DISPLAY_START, WORD
 
@@ -140,13 +139,7 @@ def screen_changes(library: Library, machine: Machine, inputs: Inputs, to: int) 
     """Yields the counts up to another one at which an instruction changes the screen. The machine advances."""
     conditions = array_of(CHANGES_SCREEN.raws)
     while machine.count < to and not machine.state.stop:
-        if library.limit:
-            library.limit.left()
-        first, end, start = machine.count, slice_end(machine, inputs, machine.steps, to), monotonic()
-        found = library.hits(machine, inputs, end, conditions, ROOM)
-        if machine.count == end:
-            machine.steps = steps_after(machine, end - first, monotonic() - start)
-        yield from (it.count for it in found)
+        yield from (it.count for it in library.hits(machine, inputs, to, conditions, ROOM))
 
 
 class Drawn:

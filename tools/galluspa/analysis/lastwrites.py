@@ -7,11 +7,10 @@ from galluspa.analysis.addresses import place_words, register_named
 from galluspa.analysis.conditions import conditions_of
 from galluspa.analysis.expressions import Moment
 from galluspa.analysis.naming import placed_lines
-from galluspa.analysis.rawconditions import BECOMES, CHANGE, IS, REGISTER_NUMBERS, WRITES, WRITTEN, Condition, Raw, writing
+from galluspa.analysis.rawconditions import CHANGE, REGISTER_NUMBERS, WRITTEN, Condition, Raw, changing, writing
 from galluspa.analysis.search import Search
 from galluspa.engine.past import Past
-from galluspa.engine.recorded import RawStep
-from galluspa.engine.tracing import Run, Step, step_of
+from galluspa.engine.tracing import Run, Step
 from galluspa.formats.recording import MEMORY_BYTES, WORD
 from galluspa.formats.symbols import Symbols, shown
 from galluspa.process.cli import Refused
@@ -53,77 +52,34 @@ def last_write_asked(run: Run, text: str, moment: Moment, symbols: Symbols, jobs
     conditions = conditions_of(["change" if is_dot else "store", *words], symbols)
     if len(conditions) > 1:
         raise Refused(f"{shown(text)}: expected one place")
-    if not is_dot:
-        return last_store(run, conditions[0], first, to, jobs)
-    step = _last(run, conditions[0], first, to, jobs)
-    return LastWrite(first, step, step) if step else None
+    return _last_write(run, conditions[0], None if is_dot else _storing_another(conditions[0]), first, to, jobs)
 
 
 def last_write(run: Run, part: str | int, first: int, to: int, jobs: int = 1) -> LastWrite | None:
     """Returns the last write of a part, or of the word of memory at an address, in the counts from `first` to `to`; None if
     nothing wrote it, or if there is no condition for the part."""
-    run = Past.of(run)
-    if part in REGISTER_NUMBERS:
-        step = last_writer(run, str(part), first, to, jobs)
-        return LastWrite(first, step, _changed(run, str(part), step, first, jobs)) if step else None
-    condition = writing(part)
-    if condition is None or isinstance(part, int):
-        return last_store(run, condition, first, to, jobs) if condition else None
-    step = _last(run, condition, first, to, jobs)
-    return LastWrite(first, step, step) if step else None
+    if (condition := writing(part)) is None:
+        return None
+    changes = changing(str(part)) if part in REGISTER_NUMBERS else _storing_another(condition) if isinstance(part, int) else None
+    return _last_write(Past.of(run), condition, changes, first, to, jobs)
 
 
-def last_store(run: Run, stores: Condition, first: int, to: int, jobs: int = 1) -> LastWrite | None:
-    """Returns the last store to places, and the last one that changed memory there; of a device, which no condition says when it
-    changes, the last store alone. None if there is none."""
-    step = _last(run, stores, first, to, jobs)
-    if step is None or any(it.end > MEMORY_BYTES for it in stores.raws):
-        return LastWrite(first, step, step) if step else None
-    changes = Condition(stores.text, tuple(Raw(CHANGE, it.first, it.end, WORD) for it in stores.raws))
-    return LastWrite(first, step, _last(run, changes, first, step.before.count + 1, jobs))
+def _storing_another(stores: Condition) -> Condition | None:
+    """Returns the condition that memory changes where something is stored; None of a device: no condition says when it changes."""
+    if any(it.end > MEMORY_BYTES for it in stores.raws):
+        return None
+    return Condition(stores.text, tuple(Raw(CHANGE, it.first, it.end, WORD) for it in stores.raws))
 
 
-def _last(run: Run, condition: Condition, first: int, to: int, jobs: int) -> Step | None:
+def _last_write(run: Run, writes: Condition, changes: Condition | None, first: int, to: int, jobs: int) -> LastWrite | None:
+    """Returns the last write, and the last change, which is the same if there is no condition for it. None if there is none."""
+    step = last_step(run, writes, first, to, jobs)
+    if step is None:
+        return None
+    return LastWrite(first, step, last_step(run, changes, first, step.before.count + 1, jobs) if changes else step)
+
+
+def last_step(run: Run, condition: Condition, first: int, to: int, jobs: int = 1) -> Step | None:
+    """Returns the last instruction in the counts from `first` to `to` at which a condition holds; None if there is none."""
     hit = Search(run, [condition], first, to, jobs).last() if first < to else None
     return hit.step if hit else None
-
-
-def last_writer(run: Run, register: str, first: int, to: int, jobs: int = 1) -> Step | None:
-    """Returns the last instruction in the counts from `first` to `to` that writes a register, H or the flags, whether or not the
-    value changes; None if none does."""
-    return _last(run, Condition(f"writes {register}", (Raw(WRITES, REGISTER_NUMBERS[register]),)), first, to, jobs)
-
-
-def last_change(run: Run, register: str, first: int, to: int, jobs: int = 1) -> RawStep | None:
-    """Returns the last instruction in the counts from `first` to `to` that changes a register, H or the flags: it is the last
-    one by which the register becomes what it is at `to`."""
-    if first >= to:
-        return None
-    becomes = Raw(BECOMES, REGISTER_NUMBERS[register], value=_value(run, register, to))
-    hit = Search(run, [Condition(f"{register} changes", (becomes,))], first, to, jobs).last()
-    return hit.raw if hit else None
-
-
-def first_change(run: Run, register: str, first: int, to: int) -> RawStep | None:
-    """Returns the first instruction in the counts from `first` to `to` that changes a register, H or the flags: the one before the
-    first count at which the register has another value."""
-    if first >= to:
-        return None
-    value, bits = _value(run, register, first), 15 if register == "flags" else WORD
-    other = Raw(IS, REGISTER_NUMBERS[register], least=value + 1 & bits, most=value - 1 & bits)
-    hit = Search(run, [Condition(f"{register} is not {value}", (other,))], first, to).first()
-    count = hit.count if hit else to
-    if hit is None and _value(run, register, to) == value:
-        return None
-    return next(iter(run.raw_steps(run.machine(count - 1), count)), None)
-
-
-def _changed(run: Run, register: str, step: Step, first: int, jobs: int) -> Step | None:
-    """Returns the last instruction from a count on that changed a register, up to one that wrote it."""
-    raw = last_change(run, register, first, step.before.count + 1, jobs)
-    return step_of(raw) if raw else None
-
-
-def _value(run: Run, register: str, count: int) -> int:
-    seen = run.machine(count).seen()
-    return (*seen.registers, seen.h, seen.flags)[REGISTER_NUMBERS[register]]

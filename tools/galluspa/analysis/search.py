@@ -7,7 +7,6 @@ last hit is that of the past of a segment.
 
 import ctypes
 import threading
-import time
 from collections import deque
 from collections.abc import Callable, Generator, Iterable, Iterator, Sequence
 from dataclasses import dataclass, replace
@@ -18,7 +17,7 @@ from typing import TypeVar
 from galluspa.analysis.expressions import Moment
 from galluspa.analysis.rawconditions import SENDS, SENDS_BYTE, STOPS, TAKES, Condition, Raw
 from galluspa.engine.library import AND, ignore
-from galluspa.engine.machine import Inputs, Machine, Sent, slice_end, steps_after
+from galluspa.engine.machine import Inputs, Machine, Sent
 from galluspa.engine.past import Past
 from galluspa.engine.recorded import RawStep, steps_at
 from galluspa.engine.structures import RawCondition, RawHit
@@ -27,12 +26,8 @@ from galluspa.process import children
 from galluspa.process.cli import progress
 from galluspa.process.timelimit import Limit, TimeIsUp
 
-# The first and the most steps of a slice of a search, of which the library does some tens of millions a second; more if the
-# machine waits.
-FIRST_STEPS, MOST_STEPS = 1 << 19, 1 << 22
-# What sends, stops or takes an input is seen from outside: how many steps are done at once, more if the machine waits, and
-# searched if need be.
-BLOCK_STEPS = 1 << 24
+# The steps of the first slice of a search, of which the library does some tens of millions a second.
+FIRST_STEPS = 1 << 19
 # The fewest steps of a segment that is searched, but the first and the last: each costs some milliseconds, however short it is.
 LEAST_SEGMENT = 1 << 20
 # How many steps, forward and backward, are searched before the rest is shared among threads.
@@ -197,14 +192,20 @@ class Search:
         yield from children.in_parallel(self._jobs, lambda it: function(it, run), segments)
 
     def _hits_of(self, segment: _Segment, run: Run, most: int, tell: Callable[[int], None]) -> Iterator[Hit]:
-        room = min(most, ROOM)
-        for machine, end in self._slices(run, run.machine(segment.first), segment.end, tell):
+        machine, room = run.machine(segment.first), min(most, ROOM)
+        machine.steps = FIRST_STEPS
+        while machine.count < segment.end and not machine.state.stop:
+            if not self._is_seen_outside:
+                end = segment.end
+            elif (end := self._next_block(run, machine, segment.end)) == machine.count:
+                tell(end)
+                continue
             while machine.count < end:
-                later = machine.copy()
-                found = run.library.hits(later, run.inputs, end, self._array, room)
-                yield from self._hits_at(run, machine, found)
-                machine.state, machine.words = later.state, later.words
+                first = machine.copy()
+                found = run.library.hits(machine, run.inputs, end, self._array, room)
+                yield from self._hits_at(run, first, found)
                 tell(machine.count)
+        self._has_stopped |= machine.state.stop > 0
         tell(segment.end)
 
     def _hits_at(self, run: Run, machine: Machine, found: Sequence[RawHit]) -> Iterator[Hit]:
@@ -254,30 +255,14 @@ class Search:
         tell(segment.first)
         return None
 
-    def _slices(self, run: Run, machine: Machine, to: int, tell: Callable[[int], None]) -> Iterator[tuple[Machine, int]]:
-        """The slices of a run up to a count in which something may be found: a machine, which has to be advanced
-        meanwhile, and the count to which. `tell` gets how far they come. A machine that has stopped does nothing
-        more."""
-        steps, block, searched = FIRST_STEPS, BLOCK_STEPS, machine.count
-        while machine.count < to and not machine.state.stop:
-            first, began = machine.count, time.monotonic()
-            if self._is_seen_outside and first >= searched:
-                searched = slice_end(machine, run.inputs, block, to, BLOCK_STEPS)
-                later = machine.copy()
-                sent = run.advance(later, searched)
-                block = max(steps_after(later, searched - first, time.monotonic() - began), BLOCK_STEPS)
-                if not self._may_hold(run.inputs, machine, later, sent):
-                    machine = later
-                    tell(machine.count)
-                    continue
-            began = time.monotonic()
-            end = slice_end(machine, run.inputs, steps, searched if self._is_seen_outside else to, MOST_STEPS)
-            if run.library.limit:
-                run.library.limit.left()
-            yield machine, end
-            tell(machine.count)
-            steps = steps_after(machine, end - first, time.monotonic() - began)
-        self._has_stopped |= machine.state.stop > 0
+    def _next_block(self, run: Run, machine: Machine, to: int) -> int:
+        """Returns the end of the next counts of a run, if something that is seen from outside may hold at one of them; else leads the
+        machine on to it."""
+        later = machine.copy()
+        sent = next(run.library.slices(later, run.inputs, to))
+        if not self._may_hold(run.inputs, machine, later, sent):
+            machine.state, machine.words, machine.steps = later.state, later.words, later.steps
+        return later.count
 
     def _tell(self, counts: list[int], segment: _Segment, count: int) -> None:
         """Notes how far a segment is searched, and shows how much of all is."""

@@ -7,6 +7,7 @@ from dataclasses import dataclass
 from galluspa.analysis.addresses import moment_of, place_words, register_named
 from galluspa.analysis.conditionwords import Words, place_of
 from galluspa.analysis.expressions import Moment
+from galluspa.analysis.lastwrites import last_step
 from galluspa.analysis.origins import (
     ALL_FLAGS,
     Bytes,
@@ -17,23 +18,30 @@ from galluspa.analysis.origins import (
     Written,
     bytes_of,
     flags_of,
-    is_sum,
     origins,
     register_of,
 )
-from galluspa.analysis.rawconditions import CHANGE, IS, KIND_NUMBERS, REGISTER_NUMBERS, STORE, WRITES, Condition, Raw
+from galluspa.analysis.rawconditions import (
+    CHANGE,
+    FLAG_BITS,
+    IS,
+    KIND_NUMBERS,
+    REGISTER_NUMBERS,
+    STORE,
+    WRITES,
+    WRITES_FLAGS,
+    Condition,
+    Raw,
+)
 from galluspa.analysis.search import Search
 from galluspa.engine.following import EACH_RISE
 from galluspa.engine.machine import Machine
-from galluspa.engine.recorded import STOP
 from galluspa.formats.devicewords import DEVICES_AT, LEDS_AT, MOST_KEYS
-from galluspa.engine.tracing import Run, Step, step_of
+from galluspa.engine.tracing import Run, Step
 from galluspa.formats.recording import DISPLAY_START, MEMORY_BYTES, Event
 from galluspa.formats.symbols import Symbols, shown
 from galluspa.process.cli import Refused
 
-# The numbers of last instructions among which a sum is sought in turn.
-SUMS_NEAR = (1 << 8, 1 << 12, 1 << 17)
 # The kinds of inputs that set the devices from which one loads.
 KINDS_OF = {"switches": "switches", "mouse": "mouse", "serial": "serial", "timer": "timer", "keys": "key", "disk": "disk"}
 # The default number of links, and the most.
@@ -52,36 +60,12 @@ class Writers:
 
     def last_write(self, part: Written, before: int) -> Step | None:
         """Returns the last instruction before a count that wrote a part; of a dot, that changed it."""
-        if isinstance(part, Flags) and "N" not in part.names:
-            return self._last_sum(part, before)
-        return self._last(_writing(part), before)
-
-    def _last(self, condition: Condition, before: int) -> Step | None:
-        """Returns the last instruction before a count at which a condition holds."""
-        first = self.run.first_count
-        hit = Search(self.run, [condition], first, before, self.jobs).last() if first < before else None
-        return hit.step if hit else None
+        return last_step(self.run, _writing(part), self.run.first_count, before, self.jobs)
 
     def was_stack_above(self, address: int, first: int, last: int) -> bool:
         """Returns whether R14 was above an address, and in the stack, at one of the counts from `first` to `last`."""
         above = Condition("SP is above", (Raw(IS, REGISTER_NUMBERS["R14"], least=address + 1, most=self.stack_limit),))
         return address < self.stack_limit and Search(self.run, [above], first, last + 1, self.jobs).first() is not None
-
-    def _last_sum(self, part: Flags, before: int) -> Step | None:
-        """Returns the last addition or subtraction before a count, which no condition of the library says: it is sought among
-        the last instructions. If there is none, the last instruction that changed the flags C and V."""
-        to = before
-        for steps in SUMS_NEAR:
-            first = max(before - steps, self.run.first_count)
-            found = [it for it in self.run.raw_steps(self.run.machine(first), to) if is_sum(it.word) and not it.after[STOP]]
-            if found:
-                return step_of(found[-1])
-            to = first
-        now = flags_of(self.run.machine(before).state.flags, part)
-        others = [it for it in range(16) if flags_of(it, part) != now]
-        raws = tuple(Raw(IS, REGISTER_NUMBERS["flags"], least=it, most=it) for it in others)
-        hit = self._last(Condition("flags changed", raws), before)
-        return step_of(next(self.run.raw_steps(self.run.machine(hit.before.count), hit.before.count + 1))) if hit else None
 
     def input_of(self, device: str, step: Step) -> Event | None:
         """Returns the input that set a device last, or of keys the one whose key comes first."""
@@ -131,7 +115,7 @@ def _writing(part: Written) -> Condition:
         case Register(name):
             return Condition(f"writes {name}", (Raw(WRITES, REGISTER_NUMBERS[name]),))
         case Flags():
-            return Condition("writes flags", (Raw(WRITES, REGISTER_NUMBERS["flags"]),))
+            return Condition(f"writes {part.names}", (Raw(WRITES_FLAGS, value=flags_of(FLAG_BITS, part)),))
         case Dot(address, bit):
             return Condition("change dot", (Raw(CHANGE, address, address + 4, 1 << bit),))
     raws = [Raw(STORE, part.address + at, part.address + at + 1) for at in range(4) if part.mask >> at & 1]

@@ -10,7 +10,6 @@ from galluspa.analysis.calls import Calls
 from galluspa.analysis.conditionwords import PC_WORDS
 from galluspa.analysis.entries import is_call
 from galluspa.analysis.inspection import entries_of
-from galluspa.analysis.lastwrites import first_change, last_change
 from galluspa.analysis.rawconditions import COUNTER, STOPS, Condition, Raw
 from galluspa.analysis.search import Hit, Search
 from galluspa.debugger.breakpoints import Point, conditions_in
@@ -98,27 +97,11 @@ class Debugger:
 
     def first(self, conditions: Sequence[Condition], first: int, to: int) -> Hit | None:
         """Returns the first hit from a count up to another."""
-        search = self._search(conditions, first, to)
-        hit = search.first() if search else None
-        for it in conditions:
-            # At the same count a condition of the library is the one that is named.
-            if it.register and (raw := first_change(self.run, it.register, first, hit.count if hit else to)):
-                hit = Hit(raw, it)
-        return hit
+        return Search(self.run, conditions, first, to, self.jobs).first() if conditions and first < to else None
 
     def last(self, conditions: Sequence[Condition], first: int, to: int) -> Hit | None:
         """Returns the last hit from a count up to another."""
-        search = self._search(conditions, first, to)
-        hit = search.last() if search else None
-        for it in conditions:
-            if it.register and (raw := last_change(self.run, it.register, hit.count + 1 if hit else first, to)):
-                hit = Hit(raw, it)
-        return hit
-
-    def _search(self, conditions: Sequence[Condition], first: int, to: int) -> Search | None:
-        """Returns the search for those conditions that are the library's; None if there is nothing to search."""
-        wanted = [it for it in conditions if not it.register]
-        return Search(self.run, wanted, first, to, self.jobs) if wanted and first < to else None
+        return Search(self.run, conditions, first, to, self.jobs).last() if conditions and first < to else None
 
     # Moves forward
 

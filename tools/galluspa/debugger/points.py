@@ -8,11 +8,9 @@ from galluspa.analysis.addresses import register_named
 from galluspa.analysis.valueconditions import tested
 from galluspa.analysis.conditions import conditions_of
 from galluspa.analysis.expressiontexts import Parser, literal
-from galluspa.analysis.rawconditions import MOST_CONDITIONS, REGISTER_NUMBERS, WRITES, WRITTEN, Condition, Raw, Test, changing
+from galluspa.analysis.rawconditions import MOST_CONDITIONS, WRITTEN, Condition, Test, changing
 from galluspa.debugger.base import LOCATION, MOST_TIMES, Base, split
 from galluspa.debugger.breakpoints import Point
-from galluspa.engine.tracing import Step
-from galluspa.formats import states
 from galluspa.formats.symbols import shown
 from galluspa.process.cli import Refused
 
@@ -88,15 +86,7 @@ class Points(Base):
         """Returns the condition of a watchpoint with one on the values after the instruction."""
         if not when:
             return []
-        after = tested(Parser(when, self.debugger.symbols).whole())
-        name = condition.register
-        if not name:
-            return [replace(condition, after=after)]
-
-        def is_so(step: Step) -> bool:
-            return states.values(step.before)[name] != states.values(step.after)[name]
-
-        return [Condition(condition.text, (Raw(WRITES, REGISTER_NUMBERS[name]),), is_so, after=after)]
+        return [replace(condition, after=tested(Parser(when, self.debugger.symbols).whole()))]
 
     def catch(self, text: str) -> Iterator[str]:
         """Sets a catchpoint: a pause before each instruction at which a condition holds."""

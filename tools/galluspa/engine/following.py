@@ -1,14 +1,13 @@
 """Follows the calls of a machine through a run, piece by piece, by the library's definition of a call (include/galluspa.h)."""
 
 import struct
-import time
 from collections.abc import Iterator
-from dataclasses import dataclass, field
+from dataclasses import dataclass, field, replace
 from typing import NamedTuple
 
 from galluspa.engine.library import Library
-from galluspa.engine.machine import Inputs, Machine, slice_end, steps_after
-from galluspa.engine.structures import RawCall, RawTurn
+from galluspa.engine.machine import Inputs, Machine
+from galluspa.engine.structures import RawCall
 from galluspa.formats.recording import WORDS
 from galluspa.process.cli import Refused
 
@@ -58,12 +57,11 @@ class Follower:
     limit: int = EACH_RISE
     # How many calls are open, and these, oldest first, at the front of a room for more.
     number: int = 0
-    room: bytearray = field(default_factory=lambda: bytearray(CALL.size * FIRST_CALLS))
-    turns: bytearray = field(default_factory=lambda: bytearray(TURN.size * TURNS))
+    room: bytes = field(default_factory=lambda: bytes(CALL.size * FIRST_CALLS))
 
     def copy(self) -> "Follower":
         """Returns another one at the same count."""
-        return Follower(self.library, self.inputs, self.machine.copy(), self.limit, self.number, bytearray(self.room), self.turns)
+        return replace(self, machine=self.machine.copy())
 
     def calls(self) -> tuple[Call, ...]:
         """Returns the open calls, oldest first."""
@@ -81,18 +79,13 @@ class Follower:
         return self.calls()
 
     def go_on(self, to: int) -> memoryview:
-        """Leads the machine on, to a count at most, for a part of a second, and returns the turns on the way; the next call of this
-        or of a copy overwrites them. Raises Refused where MOST_OPEN calls are open."""
-        if self.library.limit:
-            self.library.limit.left()
+        """Leads the machine on, to a count at most, for a part of a second, and returns the turns on the way. Raises Refused where
+        MOST_OPEN calls are open."""
         if CALL.size * self.number == len(self.room):
             if self.number >= MOST_OPEN:
                 raise Refused(f"{MOST_OPEN:,} calls are open at count {self.machine.count:,}: more are not followed")
             self.room = self.room + bytes(len(self.room))
-        machine, first, begun = self.machine, self.machine.count, time.monotonic()
-        end = slice_end(machine, self.inputs, machine.steps, to)
-        calls = (RawCall * (len(self.room) // CALL.size)).from_buffer(self.room)
-        turns = (RawTurn * TURNS).from_buffer(self.turns)
-        self.number, many = self.library.follow(machine, self.inputs, end, self.limit, calls, self.number, turns)
-        machine.steps = steps_after(machine, machine.count - first, time.monotonic() - begun)
-        return memoryview(self.turns)[: TURN.size * many]
+        calls = (RawCall * (len(self.room) // CALL.size)).from_buffer_copy(self.room)
+        self.number, turns = self.library.follow(self.machine, self.inputs, to, self.limit, calls, self.number, TURNS)
+        self.room = bytes(calls)
+        return turns

@@ -6,13 +6,14 @@ import os
 import threading
 import time
 from array import array
-from collections.abc import Callable, Sequence
+from collections.abc import Callable, Iterator, Sequence
 from dataclasses import dataclass
 from pathlib import Path
+from typing import Any
 
-from galluspa.engine.machine import LONGEST_WAIT, MOST_STEPS, SLICE_SECONDS
+from galluspa.engine.machine import MOST_STEPS, SLICE_SECONDS
 from galluspa.engine.machine import Inputs, Machine, Profile, Sent, slice_end, steps_after
-from galluspa.engine.structures import CALLS, SIZE, Counts, RawHit, RawRecord, RawState, Words
+from galluspa.engine.structures import CALLS, SIZE, Counts, RawHit, RawRecord, RawState, RawTurn, Words
 from galluspa.formats.recording import WORDS
 from galluspa.process import paths
 from galluspa.process.children import WAIT_SECONDS
@@ -33,6 +34,8 @@ REFUSALS = {
     5: "the recording has no such checkpoint",
 }
 NOT_FOUND, MORE = 11, 12
+# What the calls that run a machine do.
+DOES = {"advance": "run the machine", "hits": "search", "profile": "count", "calls": "follow calls"}
 # The number of a search for the last count.
 LAST = 1
 # What is added to the kind of a condition that is joined to the next one of its list.
@@ -53,9 +56,10 @@ def sized(array: ctypes.Array | bytes) -> tuple[object, int]:
     return array, len(array)
 
 
-def _start(machine: Machine, due: ctypes.Array) -> tuple[object, ...]:
-    """Returns the first arguments of each call that runs a machine: its state, its memory, and the inputs that are due."""
-    return ctypes.byref(machine.state), *sized(machine.words), *sized(due)
+def _given(*values: Any) -> Iterator[object]:
+    """Yields the arguments by which a call has values: an array and its length, the address of anything else that it fills, a number."""
+    for it in values:
+        yield from sized(it) if isinstance(it, ctypes.Array) else (it if isinstance(it, int) else ctypes.byref(it),)
 
 
 @dataclass(frozen=True)
@@ -129,58 +133,38 @@ class Library:
     def advance(self, machine: Machine, inputs: Inputs, to: int, heard: Callable[[int], None] = ignore) -> Sent:
         """Runs a machine up to a count, with those of the inputs that are due, and returns what it sends. A run that the
         time limit ends leaves the machine at an earlier count. Reports the count after each slice but the last."""
-        sent, most = Sent(), LONGEST_WAIT
-        while machine.count < to:
-            if self.limit:
-                self.limit.left()
-            first, end, start = machine.count, slice_end(machine, inputs, machine.steps, to), time.monotonic()
-            more = self._slice(machine, inputs, end)
-            if more is None:
-                machine.steps = most = (end - first) // 2
-                continue
+        sent = Sent()
+        for more in self.slices(machine, inputs, to):
             sent += more
-            most = most if more.length else LONGEST_WAIT
-            seconds = time.monotonic() - start
-            # A last slice that is short says little of the next.
-            if end < to or seconds > SLICE_SECONDS:
-                machine.steps = steps_after(machine, end - first, seconds, most)
             if machine.count < to:
                 heard(machine.count)
         return sent
 
+    def slices(self, machine: Machine, inputs: Inputs, to: int) -> Iterator[Sent]:
+        """Runs a machine up to a count, slice by slice, and yields what it sends in each."""
+        room, length = ctypes.create_string_buffer(max(min(to - machine.count, SENT_AT_ONCE), 1)), SIZE()
+        while machine.count < to:
+            first, steps = machine.count, machine.steps
+            if self._lead("advance", machine, inputs, to, room, length) == NO_ROOM:
+                machine.steps = min(steps, to - first) // 2
+                continue
+            if 2 * length.value > len(room):
+                machine.steps = min(steps, machine.steps)
+            yield Sent(ctypes.string_at(room, length.value), length.value)
+
     def hits(self, machine: Machine, inputs: Inputs, to: int, conditions: ctypes.Array, room: int) -> Sequence[RawHit]:
-        """Returns the counts, from a machine's up to another, at which one of these conditions holds, each with the index
-        of the first that does; `room` at most. The machine is advanced: to `to`, or to the count after the last of them if
-        they are that many. One call takes all of this, so give it a slice."""
+        """Returns the counts, from a machine's on, at which one of these conditions holds, each with the index of the first that
+        does; `room` at most. The machine is led on for a slice, up to `to` at most, or to the count after the last of them if they
+        are that many."""
         hits, number = (RawHit * room)(), SIZE()
-        # What a thread works on is left to it, if a signal or the limit of time comes first.
-        there = machine.copy() if to - machine.count > MOST_STEPS else machine
-        code = self._code(
-            to - machine.count,
-            self.calls.galluspa_hits,
-            *_start(there, inputs.raw(machine.count, to)),
-            to,
-            *sized(conditions),
-            *sized(hits),
-            ctypes.byref(number),
-        )
-        if code:
-            raise refusal(f"cannot search from {machine.count} to {to}", code)
-        if there is not machine:
-            machine.become(there)
+        self._lead("hits", machine, inputs, to, conditions, hits, number)
         return hits[: number.value]
 
     def profile(self, machine: Machine, inputs: Inputs, to: int) -> Profile:
         """Returns how often each instruction is done from a machine's count up to another; the machine stays as it is.
         One call takes all of this, so give it a slice; a call takes some milliseconds, however short."""
         counted = Profile(*(array("Q", [0]) * WORDS for _ in range(2)))
-        visits, departures = (Counts.from_buffer(it) for it in (counted.visits, counted.departures))
-        due = inputs.raw(machine.count, to)
-        code = self._code(
-            to - machine.count, self.calls.galluspa_profile, *_start(machine, due), to, *sized(visits), *sized(departures)
-        )
-        if code:
-            raise refusal(f"cannot count from {machine.count} to {to}", code)
+        self._run("profile", machine, inputs, to, *(Counts.from_buffer(it) for it in (counted.visits, counted.departures)))
         return counted
 
     def records(self, machine: Machine, inputs: Inputs, number: int) -> ctypes.Array[RawRecord]:
@@ -188,67 +172,49 @@ class Library:
         by their indices among those of these counts. One call takes all of this, so give it a slice."""
         first = machine.count
         records, due = (RawRecord * number)(), inputs.raw(first, first + number)
-        code = self.calls.galluspa_records(*_start(machine, due), *sized(records))
-        if code:
+        if code := self.calls.galluspa_records(*_given(machine.state, machine.words, due, records)):
             raise refusal(f"cannot record {number} counts from {first} on", code)
         return records
 
     def follow(
-        self, machine: Machine, inputs: Inputs, to: int, limit: int, calls: ctypes.Array, present: int, turns: ctypes.Array
-    ) -> tuple[int, int]:
-        """Runs a machine up to a count, or to where there is no room for another call or turn, and follows its calls from the first
-        `present` of `calls`, which are open. Returns how many are open then, and how many turns there were on the way; they are at
-        the fronts of both arrays. `limit` is the highest R14 of the stack. One call takes all of this, so give it a slice."""
-        counts, steps = (SIZE(present), SIZE()), to - machine.count
-        # What a thread works on is left to it, if a signal or the limit of time comes first.
-        there, open_calls, turned = machine, calls, turns
-        if steps > MOST_STEPS:
-            there, open_calls, turned = machine.copy(), type(calls).from_buffer_copy(calls), type(turns)()
-        code = self._code(
-            steps,
-            self.calls.galluspa_calls,
-            *_start(there, inputs.raw(machine.count, to)),
-            to,
-            limit,
-            *sized(open_calls),
-            ctypes.byref(counts[0]),
-            *sized(turned),
-            ctypes.byref(counts[1]),
-        )
-        if code:
-            raise refusal(f"cannot follow calls from {machine.count} to {to}", code)
-        if there is not machine:
-            machine.become(there)
-            for mine, its in ((calls, open_calls), (turns, turned)):
-                ctypes.memmove(mine, its, ctypes.sizeof(mine))
-        return counts[0].value, counts[1].value
+        self, machine: Machine, inputs: Inputs, to: int, limit: int, calls: ctypes.Array, present: int, room: int
+    ) -> tuple[int, memoryview]:
+        """Leads a machine on for a slice, up to a count at most, or to where there is no room for another call or turn, and follows
+        its calls from the first `present` of `calls`, which are open. Returns how many are open then, at the front of `calls`, and
+        the turns on the way. `limit` is the highest R14 of the stack."""
+        number, turns, turned = SIZE(present), (RawTurn * room)(), SIZE()
+        self._lead("calls", machine, inputs, to, limit, calls, number, turns, turned)
+        return number.value, memoryview(turns).cast("B")[: turned.value * ctypes.sizeof(RawTurn)]
 
-    def _slice(self, machine: Machine, inputs: Inputs, to: int) -> Sent | None:
-        """Runs a machine up to a count; None if it sends more than there is room for, and then it stays as it is."""
-        steps = to - machine.count
-        room = ctypes.create_string_buffer(max(min(steps, SENT_AT_ONCE), 1))
-        due, length = inputs.raw(machine.count, to), SIZE()
-        # What a thread works on is left to it, if a signal or the limit of time comes first.
-        there = machine.copy() if steps > MOST_STEPS else machine
-        code = self._code(steps, self.calls.galluspa_advance, *_start(there, due), to, *sized(room), ctypes.byref(length))
-        if code == NO_ROOM and steps > len(room):
-            return None
-        if code:
-            raise refusal(f"cannot run the machine from {machine.count} to {to}", code)
-        if there is not machine:
-            machine.become(there)
-        return Sent(ctypes.string_at(room, length.value), length.value)
+    def _lead(self, name: str, machine: Machine, inputs: Inputs, to: int, *more: object) -> int:
+        """Leads a machine on by a call, for a slice, up to a count at most, and returns the call's code."""
+        if self.limit:
+            self.limit.left()
+        first, end, begun = machine.count, slice_end(machine, inputs, machine.steps, to), time.monotonic()
+        code, seconds = self._run(name, machine, inputs, end, *more), time.monotonic() - begun
+        # A last slice that is short says little of the next, as does one that did not come to its end.
+        if machine.count == end and (end < to or seconds > SLICE_SECONDS):
+            machine.steps = steps_after(machine, end - first, seconds)
+        return code
 
-    def _code(self, steps: int, call: Callable[..., int], *arguments: object) -> int:
-        """Returns what a call of the library over a number of steps returns. One of many steps is made in a thread, and
-        a signal and the limit of time are handled meanwhile."""
-        if steps <= MOST_STEPS:
-            return call(*arguments)
-        codes: list[int] = []
-        caller = threading.Thread(target=lambda: codes.append(call(*arguments)), daemon=True)
+    def _run(self, name: str, machine: Machine, inputs: Inputs, to: int, *more: object) -> int:
+        """Makes a call that runs a machine up to a count, and returns its code. One of many steps is made in a thread, which works on
+        a copy: that is left to it, as is what else the call fills, if a signal or the limit of time comes first."""
+        call, first, codes = getattr(self.calls, f"galluspa_{name}"), machine.count, list[int]()
+        is_long = to - first > MOST_STEPS
+        there, due = machine.copy() if is_long else machine, inputs.raw(first, to)
+        arguments = (*_given(there.state, there.words, due), to, *_given(*more))
+        if is_long:
+            self._wait_for(threading.Thread(target=lambda: codes.append(call(*arguments)), daemon=True))
+            machine.become(there)
+        if (code := codes[0] if is_long else call(*arguments)) not in (0, NO_ROOM):
+            raise refusal(f"cannot {DOES[name]} from {first} to {to}", code)
+        return code
+
+    def _wait_for(self, caller: threading.Thread) -> None:
+        """Starts a thread, and handles a signal and the limit of time until it ends."""
         caller.start()
         while caller.is_alive():
             if self.limit:
                 self.limit.left()
             caller.join(WAIT_SECONDS)
-        return codes[0]
