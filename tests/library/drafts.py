@@ -4,7 +4,7 @@ import random
 from collections.abc import Sequence
 
 from galluspa.assembler.encoding import ADD, ALWAYS, AND, branch, imm, reg, store
-from tests.library.binding import WORDS, Input, Library, Past, State
+from tests.library.binding import Input, Library, Past
 from tests.library.counts import machine
 from tests.library.pasts import SPACING, Run, recordings
 from tests.library.trial import FACE, PROGRAM, changed, expect, fail, run
@@ -74,7 +74,7 @@ def record_live(library: Library) -> None:
     """A live machine is recorded while it runs on, and after a cut."""
     own, past = Run(library, FACE), Past()
     expect("a past that is begun", library.begin_past(past, *own.machine(0), SPACING), 0)
-    text, counts = b"", []
+    text, counts = b"", list[int]()
     for end in (50_000, 150_000, 400_000):
         expect("inputs", library.input_past(past, [it for it in own.inputs if (counts or [0])[-1] <= it.count < end]), 0)
         expect("a run", library.run_past_through(past, end), 0)
