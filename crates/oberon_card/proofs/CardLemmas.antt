@@ -1,12 +1,14 @@
 -- What the definitions of a card give in each of their cases.
-use Rattle.std.proofs.Common.{◌≡◌, ◌≢◌, ℕ, zero, suc, ◌+◌, ◌-◌, ◌/◌, ◌%◌, ◌^◌, ◌<◌, ◌≤◌, Bool, true, false, List, [], ◌∷◌, ◌++◌, length, get_or, take, drop, set, min, nat_lt, Option, Some, None, ◌∙◌, refl, sym, ap, arith}
+use Rattle.std.proofs.Common.{◌≡◌, ◌≢◌, ℕ, suc, ◌+◌, ◌-◌, ◌%◌, ◌^◌, ◌<◌, ◌≤◌, true, false, List, [], ◌∷◌, ◌++◌, length, get_or}
+use Rattle.std.proofs.Common.{take, drop, set, min, nat_lt, Option, Some, None, ◌∙◌, refl, sym, ap, arith}
 use Rattle.std.specs.Prelude.{◌==◌, if◌then◌else◌}
 use Rattle.std.proofs.Math.Nat.{min-le_right, min-eq_left}
 use Rattle.std.proofs.lemmas.List.{length-take-le, take_all, length-set}
 use Rattle.oberon_card.specs.declared.card.Card.{Card}
 use Rattle.oberon_card.specs.CardState.{CardState, has_block, card_of, is_set, flagged}
 use Rattle.oberon_card.specs.Commands.{replied, stated, reading, writing, obeyed}
-use Rattle.oberon_card.specs.Exchange.{said, spoken, argument_of, commanded, packed, is_token, is_of_command, listened, heard_after, heard}
+use Rattle.oberon_card.specs.Exchange.{said, spoken, argument_of, commanded, packed, is_token}
+use Rattle.oberon_card.specs.Exchange.{is_of_command, listened, heard_after, heard}
 use Rattle.oberon_card.proofs.ListLemmas.{one_more, beyond}
 
 -- ---- what it says
@@ -26,7 +28,8 @@ pub said-block : (s : CardState) (x : ℕ) (rest : List ℕ) → s.reply ≡ [] 
 unfolding said
 said-block s x rest none is = ap (λ (l : List ℕ). get_or (l ++ s.sending) 0 255) none ∙ ap (λ (l : List ℕ). get_or l 0 255) is
 
-pub spoken-block : (s : CardState) (x : ℕ) (rest : List ℕ) → s.reply ≡ [] → s.sending ≡ x ∷ rest → record s { sending = rest } ≡ spoken s
+pub spoken-block : (s : CardState) (x : ℕ) (rest : List ℕ) → s.reply ≡ [] → s.sending ≡ x ∷ rest
+    → record s { sending = rest } ≡ spoken s
 unfolding spoken
 spoken-block s x rest none is = sym (rw none (rw is refl))
 
@@ -49,7 +52,8 @@ pub reading-none : (number : ℕ) (s : CardState) → has_block number s ≡ fal
 unfolding reading
 reading-none number s has = sym (rw has refl)
 
-pub writing-block : (number : ℕ) (s : CardState) → has_block number s ≡ true → record (stated 0 s) { awaited = true; target = number } ≡ writing number s
+pub writing-block : (number : ℕ) (s : CardState) → has_block number s ≡ true
+    → record (stated 0 s) { awaited = true; target = number } ≡ writing number s
 unfolding writing
 writing-block number s has = sym (rw has refl)
 
@@ -72,7 +76,8 @@ obeyed-unknown n argument s a b c d e f g h =
     sym (rw is_0 (rw is_8 (rw is_16 (rw is_17 (rw is_24 (rw is_41 (rw is_55 (rw is_58 refl))))))))
 
 -- what came of the command before is dropped
-pub obeyed-command : (number argument : ℕ) (bytes : List ℕ) (s : CardState) → obeyed number argument (record s { command = bytes }) ≡ obeyed number argument s
+pub obeyed-command : (number argument : ℕ) (bytes : List ℕ) (s : CardState)
+    → obeyed number argument (record s { command = bytes }) ≡ obeyed number argument s
 unfolding obeyed reading writing stated replied has_block
 obeyed-command number argument bytes s = refl
 
@@ -84,7 +89,8 @@ commanded-few bytes s few =
     let not_six : (length bytes == 6) ≡ false = grind arith in
     sym (rw not_six refl)
 
-pub commanded-whole : (bytes : List ℕ) (s : CardState) → length bytes ≡ 6 → obeyed (get_or bytes 0 0 % 2 ^ 6) (argument_of bytes) s ≡ commanded bytes s
+pub commanded-whole : (bytes : List ℕ) (s : CardState) → length bytes ≡ 6
+    → obeyed (get_or bytes 0 0 % 2 ^ 6) (argument_of bytes) s ≡ commanded bytes s
 unfolding commanded
 commanded-whole bytes s whole =
     let six : (length bytes == 6) ≡ true = grind arith in
@@ -107,19 +113,23 @@ pub packed-packet : (bytes : List ℕ) (p : Option (List ℕ)) (s : CardState) �
 unfolding packed
 packed-packet bytes p s = refl
 
-pub heard-packet : (bytes : List ℕ) (byte : ℕ) (s : CardState) → s.packet ≡ Some bytes → packed (bytes ++ byte ∷ []) s ≡ heard byte s
+pub heard-packet : (bytes : List ℕ) (byte : ℕ) (s : CardState) → s.packet ≡ Some bytes
+    → packed (bytes ++ byte ∷ []) s ≡ heard byte s
 unfolding heard heard_after
 heard-packet bytes byte s is = sym (ap (λ p. heard_after p byte s) is)
 
-pub heard-token : (byte : ℕ) (s : CardState) → s.packet ≡ None → is_token byte s ≡ true → record s { awaited = false; packet = Some [] } ≡ heard byte s
+pub heard-token : (byte : ℕ) (s : CardState) → s.packet ≡ None → is_token byte s ≡ true
+    → record s { awaited = false; packet = Some [] } ≡ heard byte s
 unfolding heard heard_after listened
 heard-token byte s none token = sym (ap (λ p. heard_after p byte s) none ∙ rw token refl)
 
-pub heard-command : (byte : ℕ) (s : CardState) → s.packet ≡ None → is_token byte s ≡ false → is_of_command byte s ≡ true → commanded (s.command ++ byte ∷ []) s ≡ heard byte s
+pub heard-command : (byte : ℕ) (s : CardState) → s.packet ≡ None → is_token byte s ≡ false → is_of_command byte s ≡ true
+    → commanded (s.command ++ byte ∷ []) s ≡ heard byte s
 unfolding heard heard_after listened
 heard-command byte s none token command = sym (ap (λ p. heard_after p byte s) none ∙ rw token (rw command refl))
 
-pub heard-nothing : (byte : ℕ) (s : CardState) → s.packet ≡ None → is_token byte s ≡ false → is_of_command byte s ≡ false → s ≡ heard byte s
+pub heard-nothing : (byte : ℕ) (s : CardState) → s.packet ≡ None → is_token byte s ≡ false → is_of_command byte s ≡ false
+    → s ≡ heard byte s
 unfolding heard heard_after listened
 heard-nothing byte s none token command = sym (ap (λ p. heard_after p byte s) none ∙ rw token (rw command refl))
 

@@ -3,7 +3,7 @@ use Rattle.std.proofs.Common.{◌≡◌, ℕ, false, List, [], ◌∷◌, ◌++�
 use Rattle.oberon_card.specs.CardState.{CardState, has_block}
 use Rattle.oberon_card.specs.Commands.{replied, stated, reading, writing, obeyed}
 use Rattle.oberon_card.specs.Exchange.{said, spoken, commanded, packed, is_token, is_of_command, listened, heard_after, heard, exchanged}
-use Rattle.oberon_card.specs.Transfer.{exchanges, said_in_four, is_selected, is_fast, served, transferred, answer_of}
+use Rattle.oberon_card.specs.Transfer.{exchanges, said_in_four, is_selected, is_fast, served, answer_of}
 
 -- a card over the blocks 10 to 13, whose caller gives blocks of three bytes
 abbrev powered : CardState

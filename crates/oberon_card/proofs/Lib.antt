@@ -1,4 +1,5 @@
 pub mod ListLemmas
 pub mod CardLemmas
 pub mod TransferLemmas
+pub mod LawLemmas
 mod Examples

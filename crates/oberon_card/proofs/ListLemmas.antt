@@ -1,14 +1,16 @@
 -- The end of a list, from which one element goes after the other, and its front, which grows by one.
-use Rattle.std.proofs.Common.{◌≡◌, ℕ, ◌+◌, ◌-◌, ◌<◌, ◌≤◌, List, [], ◌∷◌, ◌++◌, length, get_or, take, drop, set, min, ◌∙◌, refl, sym, ap, arith}
-use Rattle.std.proofs.lemmas.List.{drop_all, drop_more, take_more_set, length-take-le}
-use Rattle.std.proofs.Math.Nat.{min-le_left, min-le_right, min-eq_left, min-eq_right}
+use Rattle.std.proofs.Common.{◌≡◌, ℕ, ◌+◌, ◌-◌, ◌<◌, ◌≤◌, List, [], ◌∷◌, ◌++◌, length, get_or}
+use Rattle.std.proofs.Common.{take, drop, set, min, ◌∙◌, sym, ap, arith}
+use Rattle.std.proofs.lemmas.List.{drop_all, drop_more, take_more_set}
+use Rattle.std.proofs.Math.Nat.{min-le_right}
 
 -- a number above n counts as n
 pub beyond : (n left : ℕ) → n - left ≡ n - min left n
 beyond n left = grind arith
 
 -- something is left: its first element, and the rest
-pub some_left : (n left m : ℕ) (xs : List ℕ) → length xs ≡ n → m ≡ min left n → 0 < m → drop (n - left) xs ≡ get_or xs (n - m) 0 ∷ drop (n - (m - 1)) xs
+pub some_left : (n left m : ℕ) (xs : List ℕ) → length xs ≡ n → m ≡ min left n → 0 < m
+    → drop (n - left) xs ≡ get_or xs (n - m) 0 ∷ drop (n - (m - 1)) xs
 some_left n left m xs whole is some =
     let most : m ≤ n = grind (arith, min-le_right left n) in
     let at : n - left ≡ n - m = grind (arith, beyond n left) in

@@ -4,3 +4,4 @@ pub mod Commands
 pub mod Exchange
 pub mod Transfer
 pub mod Wants
+pub mod Laws

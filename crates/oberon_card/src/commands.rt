@@ -1,10 +1,10 @@
 //! What the card replies to a command, and does at it.
-ghost use Rattle.std.specs.Prelude.{◌≡◌, ◌≤◌, ◌-◌, ◌∷◌, [], drop, length, get_or, ◌%◌, ◌^◌, if◌then◌else◌};
+ghost use Rattle.std.specs.Prelude.{◌≡◌, ◌≤◌, ◌-◌, drop, length, get_or, ◌%◌, ◌^◌, if◌then◌else◌};
 ghost use Rattle.oberon_card.specs.CardState.{card_of, has_block};
 ghost use Rattle.oberon_card.specs.Commands.{replied, stated, reading, writing, obeyed};
 ghost use Rattle.oberon_card.specs.Exchange.{argument_of};
 
-use crate::card::{BLOCK_BYTES, COMMAND_BYTES, Card};
+use crate::card::{BLOCK_BYTES, Card};
 
 /// What a card says that has nothing to say.
 pub(crate) const IDLE: u8 = 255;

@@ -6,9 +6,11 @@
 mod card;
 mod commands;
 mod exchange;
+mod laws;
 mod powered;
 mod transfer;
 mod wants;
 
 pub use card::{BLOCK_BYTES, Card};
+pub use laws::read_law;
 pub use wants::Wants;

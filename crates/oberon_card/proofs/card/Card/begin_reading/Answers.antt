@@ -1,4 +1,4 @@
-use Rattle.std.proofs.Common.{◌≡◌, ◌∙◌, ap, sym, true, false, Some, arith}
+use Rattle.std.proofs.Common.{◌≡◌, ◌∙◌, ap, true, false, Some, arith}
 use Rattle.oberon_card.specs.CardState.{CardState, card_of, has_block}
 use Rattle.oberon_card.specs.Commands.{replied}
 use Rattle.oberon_card.proofs.CardLemmas.{reading-block, reading-none}

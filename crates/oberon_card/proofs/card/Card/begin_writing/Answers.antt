@@ -1,4 +1,4 @@
-use Rattle.std.proofs.Common.{◌≡◌, ◌∙◌, ap, sym, true, false, arith}
+use Rattle.std.proofs.Common.{◌≡◌, ◌∙◌, ap, true, false, arith}
 use Rattle.oberon_card.specs.CardState.{CardState, card_of, has_block}
 use Rattle.oberon_card.proofs.CardLemmas.{writing-block, writing-none}
 use Rattle.oberon_card.proofs.card.Card.begin_writing.Goals as goal

@@ -1,5 +1,4 @@
-use Rattle.std.proofs.Common.{◌≡◌, ◌∙◌, ◌-◌, ap, true, false, None, Some, sym, take, refl, arith}
-use Rattle.oberon_card.specs.CardState.{card_of}
+use Rattle.std.proofs.Common.{◌∙◌, ◌-◌, true, false, arith}
 use Rattle.oberon_card.proofs.CardLemmas.{heard-packet, heard-token, heard-command, heard-nothing, a_packet, no_packet}
 use Rattle.oberon_card.proofs.card.Card.hear.Goals as goal
 

@@ -39,4 +39,5 @@ returns-in-58 c = rw c.in-58.is c.reply-in-58.ensures
 pub returns-in_default : goal.returns-in_default
 returns-in_default c =
     c.state-in_default.ensures
-    ∙ obeyed-unknown _ _ _ (λ is. search arith) (λ is. search arith) (λ is. search arith) (λ is. search arith) (λ is. search arith) (λ is. search arith) (λ is. search arith) (λ is. search arith)
+    ∙ obeyed-unknown _ _ _ (λ is. search arith) (λ is. search arith) (λ is. search arith) (λ is. search arith)
+    (λ is. search arith) (λ is. search arith) (λ is. search arith) (λ is. search arith)

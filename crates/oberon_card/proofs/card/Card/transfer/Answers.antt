@@ -1,6 +1,6 @@
-use Rattle.std.proofs.Common.{◌≡◌, ◌∙◌, true, false, get_or, ap, arith}
+use Rattle.std.proofs.Common.{◌≡◌, ◌∙◌, true, false, ap, arith}
 use Rattle.oberon_card.specs.Exchange.{said, exchanged}
-use Rattle.oberon_card.specs.CardState.{CardState, card_of}
+use Rattle.oberon_card.specs.CardState.{card_of}
 use Rattle.oberon_card.specs.Transfer.{served, is_selected, is_fast}
 use Rattle.oberon_card.proofs.TransferLemmas.{idle_after, idle_answer, slow_after, slow_answer, fast_after, fast_answer, four}
 use Rattle.oberon_card.proofs.card.Card.transfer.Goals as goal
@@ -48,5 +48,6 @@ returns-clause-answer c =
     let third = c.exchange-3.ensures.after ∙ ap (exchanged _) second in
     let fourth = c.exchange-4.ensures.after ∙ ap (exchanged _) third in
     c.from_le_bytes.ensures
-    ∙ four _ _ _ _ _ _ _ _ c.exchange-2.ensures.value (c.exchange-3.ensures.value ∙ ap said second) (c.exchange-4.ensures.value ∙ ap said third) (c.exchange-5.ensures.value ∙ ap said fourth)
+    ∙ four _ _ _ _ _ _ _ _ c.exchange-2.ensures.value (c.exchange-3.ensures.value ∙ ap said second)
+    (c.exchange-4.ensures.value ∙ ap said third) (c.exchange-5.ensures.value ∙ ap said fourth)
     ∙ fast_answer _ _ _ (card_of c.args.self.now) c.to_le_bytes.ensures selected fast
