@@ -89,9 +89,11 @@ invariant_of-self-inside-2 c =
     next has stored stored-so c.len-pages.ensures.pages made c.new.result.items
     (ap (λ (t : Table). record { count = last.count + spacing; cpu = cpu_state next.cpu; devices = next.devices; sent = c.new.result.items; table = t.numbers }) c.copy.ensures)
     c.push.new.self.items items in
-    warm-of run (past_of (parts_of stored.pool past.inputs c.push.new.self.items) spacing end).run end past.warm longer.run past.warm_at_end in
-    (pushed-or-not IsKeptWarm c.push.result (keyframes ++ made ∷ []) keyframes c.push.new.self.items c.push.ensures.items pushed
-    (warm-of run (past_of (parts_of stored.pool past.inputs keyframes) spacing end).run end past.warm grown.run past.warm_at_end), tt)
+    warm-of run (past_of (parts_of stored.pool past.inputs c.push.new.self.items) spacing end).run end past.warm longer.run past.warm_at_end in (
+      pushed-or-not IsKeptWarm c.push.result (keyframes ++ made ∷ []) keyframes c.push.new.self.items c.push.ensures.items pushed
+          (warm-of run (past_of (parts_of stored.pool past.inputs keyframes) spacing end).run end past.warm grown.run past.warm_at_end),
+      tt,
+    )
 
 pub store_pages-stored-requires-clause-few : goal.store_pages-stored-requires-clause-few
 store_pages-stored-requires-clause-few c = rw c.deref.ensures.value (few-changes _ _ c.args.next.changed.items c.requires.is_reached.changed)

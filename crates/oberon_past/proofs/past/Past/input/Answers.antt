@@ -18,9 +18,11 @@ invariant_of-self-inside c =
     let next = subst (λ (p : PastParts). AreNext p c.args.inputs.now) (sym c.self.view_is) (c.are_next.ensures.0 c.if-not-are_next.false) in
     let added = λ (is : c.append.new.self ≡ past.inputs ++ c.args.inputs.now).
     let has = has-inputs old spacing end c.self.invariant c.args.inputs.now c.append.new.self next is in
-    warm-same (past_of old spacing end).run (past_of new spacing end).run end past.warm has.states past.warm_at_end in
-    (either-way (λ (es : List Event). IsWarm (parts_of past.stored.pool es past.keyframes.items) spacing end past.warm) c.append.result
-    (past.inputs ++ c.args.inputs.now) past.inputs c.append.new.self c.append.ensures.appended c.append.ensures.unchanged added past.warm_at_end, tt)
+    warm-same (past_of old spacing end).run (past_of new spacing end).run end past.warm has.states past.warm_at_end in (
+      either-way (λ (es : List Event). IsWarm (parts_of past.stored.pool es past.keyframes.items) spacing end past.warm) c.append.result
+          (past.inputs ++ c.args.inputs.now) past.inputs c.append.new.self c.append.ensures.appended c.append.ensures.unchanged added past.warm_at_end,
+      tt,
+    )
 
 pub invariant_of-self-2 : goal.invariant_of-self-2
 invariant_of-self-2 c =
