@@ -11,7 +11,7 @@ pub(crate) struct Warm {
     pub(crate) from: u64,
 }
 
-/// Detaches a machine, whose memory it began with at the count `from`. Returns none if there is no memory for its private pages.
+/// Detaches a machine, whose memory it began with at the count `from`. Returns none if memory runs out.
 pub(crate) fn kept_warm(machine: Machine<'_>, from: u64) -> Option<Warm>
     ensures machine { IfSome result (λ warm. warm.machine ≡ machine.entry) }
     ensures from { IfSome result (λ warm. warm.from ≡ from) }
