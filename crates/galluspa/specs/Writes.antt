@@ -42,8 +42,8 @@ part_of raw =
     else None
 
 -- which writes a caller's number looks for: all of them if it is 0, and else those that change the part
-abbrev pub kind_of : ℕ → WriteKind
-kind_of changing = if changing == 0 then Any else Changing
+abbrev pub write_kind : ℕ → WriteKind
+write_kind changing = if changing == 0 then Any else Changing
 
 -- what is asked about any past is in its range
 pub record IsWriteQuestion (raw : RawPart) (changing budget : ℕ) : Type 0 where
@@ -70,4 +70,4 @@ pub record IsWrite (raw : RawWrite) : Type 0 where
 pub record HasWritten (raw : RawPart) (changing before : ℕ) (written : LastWrite) (p : PastParts) : Type 0 where
   pub part : Part
   pub is_part : part_of raw ≡ Some part
-  pub is_written : IsWritten p.run p.end part (kind_of changing) before written
+  pub is_written : IsWritten p.run p.end part (write_kind changing) before written

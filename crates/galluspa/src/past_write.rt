@@ -4,7 +4,7 @@ ghost use Rattle.oberon_past.specs.Past.{IsLonger};
 ghost use Rattle.oberon_past.specs.Search.{IsRange};
 ghost use Rattle.oberon_past.specs.Writes.{AdvancesWrite};
 ghost use Rattle.galluspa.specs.Past.{Holds, HoldsBoth, IsClosed, Keeps};
-ghost use Rattle.galluspa.specs.Writes.{HasWritten, IsWrite, IsWriteQuestion, kind_of, write_of};
+ghost use Rattle.galluspa.specs.Writes.{HasWritten, IsWrite, IsWriteQuestion, write_kind, write_of};
 ghost use Rattle.galluspa.specs.inner.Asking.{IsUnanswered};
 
 use crate::part::{RawPart, RawWrite, part_of, raw_write};
@@ -15,8 +15,8 @@ use oberon_past::{LastWrite, Past, WriteKind};
 use std::alloc::Global;
 
 /// Returns which writes a caller looks for.
-fn kind_of(changing: u32) -> WriteKind
-    ensures { result ≡ kind_of changing }
+fn write_kind(changing: u32) -> WriteKind
+    ensures { result ≡ write_kind changing }
 {
     if changing == 0 {
         return WriteKind::Any;
@@ -48,7 +48,7 @@ fn write_in(
         return Err(Unanswered::Range);
     };
     let budget = budget_for(past, before, before, budget)?;
-    let written = past.write(alloc, asked, kind_of(changing), before, budget)?;
+    let written = past.write(alloc, asked, write_kind(changing), before, budget)?;
     Ok(written)
 }
 
