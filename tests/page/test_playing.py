@@ -22,7 +22,7 @@ def test_play(desk: Desk) -> None:
     """The past is played from the cursor up to now, at both speeds, and paused at one; the machine stays where it is."""
     page = desk.page
     desk.run_to_end("face.orsr", FACE)
-    expect("what a machine that is paused is", page.answer(WORD), "PAUSED")
+    expect("what a machine is whose program ended", page.answer(WORD), "DONE")
     for speed in ("clock", "fast"):
         desk.set_speed(speed)
         desk.look_at(8000000)

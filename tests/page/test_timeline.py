@@ -50,7 +50,7 @@ def test_drag(desk: Desk) -> None:
     claims = page.answer("[...el('lists').firstChild.children].map((it) => it.textContent)")
     expect("the list of the checkpoints", claims, [f"true at {count:,}" for count in (4000000, 8000000, 12000000, 20000000)])
     desk.click("back-now")
-    page.wait(f"{WORD} === 'PAUSED'")
+    page.wait(f"{WORD} === 'DONE'")
     expect("the picture now", desk.dots() == program_dots(FACE, 4), True)
     desk.look_at(8000000)
     desk.start("keys.json", (EXAMPLES / "keys.json").read_bytes())
@@ -111,8 +111,9 @@ def test_press_each(desk: Desk) -> None:
     desk.click("zoom-all")
     press_search_keys(desk)
     page.answer("el('cursor').focus()")
-    page.press("Escape")
-    page.wait(f"{WORD} === 'PAUSED'")
+    for _ in ("the menu", "the past"):
+        page.press("Escape")
+    page.wait(f"{WORD} === 'DONE'")
     for isOn in ("galluspa.frame().on", "!galluspa.frame().on"):
         page.press("Enter", modifiers=CTRL | SHIFT)
         page.wait(isOn)

@@ -5,7 +5,7 @@ import { Inputs, isInput } from "./inputs.js";
 import { JsonReader } from "./json.js";
 import { CHECKPOINT_LIMIT, INPUT_LIMIT, INPUT_LIMIT_WITH_DISK, LONGEST_SESSION, MOST_COUNT } from "./limits.js";
 import { Refused } from "./refused.js";
-import { AT, DISK, field, KINDS, MEMORY_BYTES, PAGE_BYTES, PAGES, REGISTERS, STATE_BYTES, UNANSWERED } from "./states.js";
+import { AT, DISK, KINDS, MEMORY_BYTES, PAGE_BYTES, REGISTERS, STATE_BYTES, UNANSWERED } from "./states.js";
 
 const PAGE_LIMIT = 1024, PC_END = 1 << 22;
 

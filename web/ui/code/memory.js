@@ -3,7 +3,7 @@
 import { address, bothOf, memoryAddress } from "../../host/addresses.js";
 import { app } from "../../host/app.js";
 import { setWatches } from "./breakpoints.js";
-import { attempt, button, el, isNarrow, listButton, made, notice, on, set, write } from "../../host/elements.js";
+import { attempt, el, isNarrow, listButton, made, notice, on, set, write } from "../../host/elements.js";
 import { askLastWriter } from "./lastwriter.js";
 import { onNames, placeText } from "../../host/names.js";
 import { isTab, MOST_BREAKS, shownCount, shownState, watches } from "../../host/shown.js";

@@ -4,7 +4,7 @@ import { app } from "../../host/app.js";
 import { setBreaks, toggleBreak } from "../code/breakpoints.js";
 import { commands, offer } from "../../host/commands.js";
 import {
-  assembler, breakLines, desk, editor, FIRST_FILE, FIRST_SOURCE, isEdited, lineOfWord, linesNow, LONGEST_SOURCE, ownEditor, partOf, runningPart, setDesk, sourceEditor, sourcesNow, wordOfLine,
+  assembler, breakLines, desk, editor, FIRST_FILE, FIRST_SOURCE, lineOfWord, linesNow, LONGEST_SOURCE, ownEditor, partOf, runningPart, setDesk, sourceEditor, sourcesNow, wordOfLine,
 } from "./desk.js";
 import { plainText } from "./editor.js";
 import { attempt, button, download, el, made, named, notice, on, paragraph, set, write } from "../../host/elements.js";
