@@ -127,7 +127,8 @@ fn first_draft(alloc: Global, past: &Past, text: &[u8]) -> Result<Draft, Undraft
     if text.len() == 0 {
         return match past.draft(alloc) {
             Ok(draft) => Ok(draft),
-            Err(_) => Err(Undrafted::Memory),
+            Err(DraftFault::Memory) => Err(Undrafted::Memory),
+            Err(_) => unreachable!(),
         };
     }
     let recording = match read_with_disk(alloc, text) {
