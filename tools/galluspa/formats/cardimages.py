@@ -52,8 +52,8 @@ def _file_system_of(path: Path) -> int:
         return places[words.index(DIRECTORY)]
     found = " and ".join(f"{'no bytes' if word is None else f'{word:08X}'} at byte {at:,}" for at, word in zip(places, words))
     raise Refused(
-        f"{path}: no card of Project Oberon (2013): the directory begins with the word {DIRECTORY:08X}, at byte {places[0]} of an image "
-        f"that begins with the file system, or at byte {places[1]:,} of a whole card: found {found}"
+        f"{path}: no card of Project Oberon (2013): the directory begins with the word {DIRECTORY:08X}, at byte {places[0]} of an "
+        f"image that begins with the file system, or at byte {places[1]:,} of a whole card: found {found}"
     )
 
 
