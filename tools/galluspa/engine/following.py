@@ -1,5 +1,6 @@
 """Follows the calls of a machine through a run, piece by piece, by the library's definition of a call (include/galluspa.h)."""
 
+import ctypes
 import struct
 from collections.abc import Iterator
 from dataclasses import dataclass, field, replace
@@ -7,7 +8,7 @@ from typing import NamedTuple
 
 from galluspa.engine.library import Library
 from galluspa.engine.machine import Inputs, Machine
-from galluspa.engine.structures import RawCall
+from galluspa.engine.structures import RawCall, RawTurn
 from galluspa.formats.recording import WORDS
 from galluspa.process.cli import Refused
 
@@ -58,10 +59,11 @@ class Follower:
     # How many calls are open, and these, oldest first, at the front of a room for more.
     number: int = 0
     room: bytes = field(default_factory=lambda: bytes(CALL.size * FIRST_CALLS))
+    turns: "ctypes.Array[RawTurn] | None" = None
 
     def copy(self) -> "Follower":
         """Returns another one at the same count."""
-        return replace(self, machine=self.machine.copy())
+        return replace(self, machine=self.machine.copy(), turns=None)
 
     def calls(self) -> tuple[Call, ...]:
         """Returns the open calls, oldest first."""
@@ -79,13 +81,15 @@ class Follower:
         return self.calls()
 
     def go_on(self, to: int) -> memoryview:
-        """Leads the machine on, to a count at most, for a part of a second, and returns the turns on the way. Raises Refused where
-        MOST_OPEN calls are open."""
+        """Leads the machine on, to a count at most, for a part of a second, and returns the turns on the way; the next call
+        overwrites them. Raises Refused where MOST_OPEN calls are open."""
         if CALL.size * self.number == len(self.room):
             if self.number >= MOST_OPEN:
                 raise Refused(f"{MOST_OPEN:,} calls are open at count {self.machine.count:,}: more are not followed")
             self.room = self.room + bytes(len(self.room))
         calls = (RawCall * (len(self.room) // CALL.size)).from_buffer_copy(self.room)
-        self.number, turns = self.library.follow(self.machine, self.inputs, to, self.limit, calls, self.number, TURNS)
-        self.room = bytes(calls)
-        return turns
+        # A call that is interrupted may go on to fill them.
+        turns, self.turns = self.turns or (RawTurn * TURNS)(), None
+        self.number, many = self.library.follow(self.machine, self.inputs, to, self.limit, calls, self.number, turns)
+        self.room, self.turns = bytes(calls), turns
+        return memoryview(turns).cast("B")[: TURN.size * many]

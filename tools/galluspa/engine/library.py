@@ -13,7 +13,7 @@ from typing import Any
 
 from galluspa.engine.machine import MOST_STEPS, SLICE_SECONDS
 from galluspa.engine.machine import Inputs, Machine, Profile, Sent, slice_end, steps_after
-from galluspa.engine.structures import CALLS, SIZE, Counts, RawHit, RawRecord, RawState, RawTurn, Words
+from galluspa.engine.structures import CALLS, SIZE, Counts, RawHit, RawRecord, RawState, Words
 from galluspa.formats.recording import WORDS
 from galluspa.process import paths
 from galluspa.process.children import WAIT_SECONDS
@@ -177,14 +177,14 @@ class Library:
         return records
 
     def follow(
-        self, machine: Machine, inputs: Inputs, to: int, limit: int, calls: ctypes.Array, present: int, room: int
-    ) -> tuple[int, memoryview]:
+        self, machine: Machine, inputs: Inputs, to: int, limit: int, calls: ctypes.Array, present: int, turns: ctypes.Array
+    ) -> tuple[int, int]:
         """Leads a machine on for a slice, up to a count at most, or to where there is no room for another call or turn, and follows
-        its calls from the first `present` of `calls`, which are open. Returns how many are open then, at the front of `calls`, and
-        the turns on the way. `limit` is the highest R14 of the stack."""
-        number, turns, turned = SIZE(present), (RawTurn * room)(), SIZE()
+        its calls from the first `present` of `calls`, which are open. Returns how many are open then, and how many turns there were
+        on the way; they are at the fronts of both arrays. `limit` is the highest R14 of the stack."""
+        number, turned = SIZE(present), SIZE()
         self._lead("calls", machine, inputs, to, limit, calls, number, turns, turned)
-        return number.value, memoryview(turns).cast("B")[: turned.value * ctypes.sizeof(RawTurn)]
+        return number.value, turned.value
 
     def _lead(self, name: str, machine: Machine, inputs: Inputs, to: int, *more: object) -> int:
         """Leads a machine on by a call, for a slice, up to a count at most, and returns the call's code."""
