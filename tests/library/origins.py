@@ -1,6 +1,5 @@
 """Where values come from: the links of a past, against a walk over single steps; that nothing but the origins matters; each refusal."""
 
-import ctypes
 from collections.abc import Iterator, Sequence
 from dataclasses import dataclass
 from random import Random

@@ -6,7 +6,21 @@ from pathlib import Path
 
 import pytest
 
-from tests.library import calls, checked, counts, drafts, examples, followed, header, origins, pasts, ranges, refusals, searches, writes
+from tests.library import (
+    calls,
+    checked,
+    counts,
+    drafts,
+    examples,
+    followed,
+    header,
+    origins,
+    pasts,
+    ranges,
+    refusals,
+    searches,
+    writes,
+)
 from tests.library.binding import Library
 from tests.library.trial import EXAMPLES, TOP, WARNINGS, expect, run
 

@@ -57,7 +57,7 @@ def sized(array: ctypes.Array | bytes) -> tuple[object, int]:
 
 
 def _given(*values: Any) -> Iterator[object]:
-    """Yields the arguments by which a call has values: an array and its length, the address of anything else that it fills, a number."""
+    """Yields the arguments by which a call has values: an array and its length, the address of what else it fills, a number."""
     for it in values:
         yield from sized(it) if isinstance(it, ctypes.Array) else (it if isinstance(it, int) else ctypes.byref(it),)
 
@@ -198,8 +198,8 @@ class Library:
         return code
 
     def _run(self, name: str, machine: Machine, inputs: Inputs, to: int, *more: object) -> int:
-        """Makes a call that runs a machine up to a count, and returns its code. One of many steps is made in a thread, which works on
-        a copy: that is left to it, as is what else the call fills, if a signal or the limit of time comes first."""
+        """Makes a call that runs a machine up to a count, and returns its code. One of many steps is made in a thread, which works
+        on a copy: that is left to it, as is what else the call fills, if a signal or the limit of time comes first."""
         call, first, codes = getattr(self.calls, f"galluspa_{name}"), machine.count, list[int]()
         is_long = to - first > MOST_STEPS
         there, due = machine.copy() if is_long else machine, inputs.raw(first, to)
