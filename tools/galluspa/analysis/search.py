@@ -256,8 +256,8 @@ class Search:
         return None
 
     def _next_block(self, run: Run, machine: Machine, to: int) -> int:
-        """Returns the end of the next counts of a run, if something that is seen from outside may hold at one of them; else leads the
-        machine on to it."""
+        """Returns the end of the next counts of a run, if something that is seen from outside may hold at one of them; else leads
+        the machine on to it."""
         later = machine.copy()
         sent = next(run.library.slices(later, run.inputs, to))
         if not self._may_hold(run.inputs, machine, later, sent):
