@@ -10,7 +10,7 @@ import galluspa.formats.recording
 from galluspa.formats import states
 from tests.page.driver.desk import CTRL, SHIFT, Desk, expect, fail, program
 from tests.page.driver.given import FACE
-from tests.page.driver.shows import DRAWN, HOW, JUDGED, LINE, OWN_JUDGED, OWN_LINE, SENT
+from tests.page.driver.shows import DRAWN, HOW, JUDGED, LINE, OWN_JUDGED, OWN_LINE, SENT, WORD
 from tests.tools.samples import EXAMPLES, PROGRAM, STORED, galluspa as galluspa_tool, group, record, rejoining, run, session
 
 TIMER_AT = 88
@@ -254,10 +254,12 @@ def look_by_keys(desk: Desk) -> None:
 
 
 def run_by_keys(desk: Desk) -> None:
-    """Runs, makes a checkpoint, pauses, and does an instruction."""
+    """Runs, also on from where the program ends, makes a checkpoint, pauses, and does an instruction."""
     page = desk.page
-    desk.go("run", back=True)
-    page.press("Enter")
+    for word in ("DONE", "LIVE"):
+        desk.go("run", back=True)
+        page.press("Enter")
+        page.wait(f"{WORD} === '{word}'")
     page.wait("galluspa.frame().on && document.activeElement === el('screen')")
     page.press("Enter", modifiers=CTRL)
     expect("where Ctrl+Enter goes", page.answer("document.activeElement.id"), "g-make-checkpoint")
