@@ -64,8 +64,8 @@ class Condition:
 
 
 def writing(part: str | int) -> Condition | None:
-    """That a register, H, the flags, a word of memory, by its address, or a part of a device is written, whatever the value. None of
-    a part for which the library has no such condition."""
+    """That a register, H, the flags, a word of memory, by its address, or a part of a device is written, whatever the value. None
+    of a part for which the library has no such condition."""
     if isinstance(part, int):
         return Condition(f"store {part:#x}", (Raw(STORE, part, part + 4),))
     if part in REGISTER_NUMBERS:
