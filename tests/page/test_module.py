@@ -187,7 +187,7 @@ def test_committed_page(tmp_path: Path, given_module: Path | None) -> None:
     new = tmp_path / "new.html"
     ran = run([TOP / "web/build", "--to", new, *(["--module", given_module] if given_module else [])])
     expect("web/build", (ran.errors, ran.status), ("", 0))
-    expect("whether the page is below 350,000 bytes", new.stat().st_size < 350000, True)
+    expect("whether the page is below 370,000 bytes", new.stat().st_size < 370000, True)
     committed, built = PAGE.read_text(), new.read_text()
     versions = [group(r'id="g-versions">(.*?)</span>', text) for text in (committed, built)]
     if versions[0] == versions[1]:
