@@ -21,3 +21,4 @@ mod LiveLemmas
 mod LogLemmas
 mod CheckLemmas
 mod SealedValues
+mod PastCrossing

@@ -9,13 +9,11 @@ use denote.Struct.Owning.{fields, shape, to}
 use denote.Struct.Struct.{exits_of}
 use Rattle.std.specs.Prelude.{None, Option, Some}
 use Rattle.std.specs.Global.{Global}
-use Rattle.std.proofs.Crossing.{crosses}
 use Rattle.std.proofs.Crossing as heap
 use Rattle.std.proofs.alloc.Global.TheSendSync as handle
 use Rattle.std_alloc.proofs.SendSync.{lies, quiet}
 use Rattle.oberon_past.specs.contracts.past.Past as past
-use Rattle.risc_machine.specs.contracts.detached.DetachedMachine as machine
-use Rattle.risc_pages.specs.contracts.detached.DetachedMemory as memory
+use Rattle.galluspa.proofs.PastCrossing.{past_send}
 use Rattle.galluspa.specs.inner.Held.{held}
 use Rattle.galluspa.specs.contracts.sealed.Sealed.{the_row, the_type}
 
@@ -26,9 +24,6 @@ held_keyless R s a p (Some x) = (lies R s p x, heap.frees.frees a (raw (lone R.m
 
 pub send : IsSend the_row
 send =
-    let of_memory : IsSend memory.the_row = search (sendable, crosses) depth 40 fits 100000 in
-    let of_machine : IsSend machine.the_row = search (of_memory, sendable, crosses) depth 40 fits 100000 in
-    let of_past : IsSend past.the_row = search (of_machine, sendable, crosses) depth 40 fits 100000 in
     let all : AllSend (fields the_type) = (search sendable, (handle.the_field_send, tt)) in
-    owning_send the_type all (λ d. held_keyless past.the_row of_past d.alloc d.at d.past)
+    owning_send the_type all (λ d. held_keyless past.the_row past_send d.alloc d.at d.past)
     (λ k. quiet (to the_type) (exits_of k (fields the_type)) ((struct_send (shape the_type) all).leaving k))
