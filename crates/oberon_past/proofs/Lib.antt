@@ -14,3 +14,4 @@ mod Counting
 mod CallsFollowed
 mod Drafts
 mod Warming
+mod UntilWrites

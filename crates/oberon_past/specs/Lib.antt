@@ -1,8 +1,9 @@
--- The past of a run. Read it in this order: a run, a past, what it answers, how it changes, how it is recorded, what searches find in
--- it, who wrote a part last, what its instructions do, how often each word is executed, its calls.
+-- The past of a run. Read it in this order: a run, a past, what it answers, how it changes, which stores end a run, how it is recorded,
+-- what searches find in it, who wrote a part last, what its instructions do, how often each word is executed, its calls.
 pub mod Run
 pub mod Past
 pub mod Live
+pub mod DeviceWrites
 pub mod Draft
 pub mod Search
 pub mod Writes

@@ -4,3 +4,4 @@ pub mod Kept
 pub mod Following
 pub mod Drafting
 pub mod Warm
+pub mod Until

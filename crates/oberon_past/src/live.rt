@@ -137,7 +137,7 @@ impl Past {
 
     /// Returns the count up to which to run on now: within the budget, and no further than to the next keyframe, if that is after the end.
     /// A machine that is stopped has nothing to do.
-    fn within(&self, to: u64, budget: Steps) -> u64
+    pub(crate) fn within(&self, to: u64, budget: Steps) -> u64
         requires { self.now.end < to }
         ensures further { self.now.end < result }
         ensures inside { result ≤ to }
@@ -157,7 +157,7 @@ impl Past {
     /// Returns the machine at the end: the one that was kept there, or else one that runs there from the last keyframe.
     ///
     /// If the last keyframe was added at the end, the machine that was kept goes on over its memory.
-    fn machine_at_end(&self, alloc: Global, warm: Option<Warm>) -> Result<Machine<'_>, AllocError>
+    pub(crate) fn machine_at_end(&self, alloc: Global, warm: Option<Warm>) -> Result<Machine<'_>, AllocError>
         requires { IfSome warm (IsAtEnd self.now.run self.now.end) }
         ensures state { IfOk result (λ machine. machine.state ≡ state_at self.now.run self.now.end) }
         ensures base { IfOk result (λ machine. machine.base ≡ (state_at self.now.run (reached self.now)).words) }
@@ -207,7 +207,7 @@ impl Past {
     }
 
     /// Returns the next keyframe, if a machine is at its count, and there is memory for it.
-    fn next_keyframe(&self, machine: &Machine<'_>, at: u64) -> Option<Reached>
+    pub(crate) fn next_keyframe(&self, machine: &Machine<'_>, at: u64) -> Option<Reached>
         requires forward { self.now.end ≤ at }
         requires state { machine.now.state ≡ state_at self.now.run at }
         requires base { machine.now.base ≡ (state_at self.now.run (reached self.now)).words }
@@ -221,7 +221,7 @@ impl Past {
     }
 
     /// Adds the next keyframe, if there is one. If there is no memory for it, it is added later.
-    fn keep(&mut self, alloc: Global, next: Option<Reached>)
+    pub(crate) fn keep(&mut self, alloc: Global, next: Option<Reached>)
         requires { IfSome next (IsNextKeyframe self.old) }
         ensures { IsLonger self.old self.new }
     {
@@ -271,7 +271,7 @@ fn last_count(events: &[Event]) -> u64
 }
 
 /// Returns why a run ended at a count, if it was to come to `within` now, and to `to` in the end.
-fn ending(end: u64, within: u64, to: u64) -> Ending
+pub(crate) fn ending(end: u64, within: u64, to: u64) -> Ending
     ensures done { result ≡ Ending.Done → end ≡ to }
     ensures more { result ≡ Ending.More → (end ≡ within) × (end ≢ to) }
     ensures no_room { result ≡ Ending.NoRoom → end ≢ within }
