@@ -14,3 +14,5 @@ mod Traces
 mod Counting
 pub mod CallsFollowed
 mod Drafts
+mod MaskedBits
+mod Determined

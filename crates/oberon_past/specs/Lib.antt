@@ -7,6 +7,7 @@ pub mod Draft
 pub mod Search
 pub mod Writes
 pub mod Origins
+pub mod OriginsLaw
 pub mod Links
 pub mod Trace
 pub mod Profile

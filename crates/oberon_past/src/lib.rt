@@ -40,7 +40,7 @@ pub use draft_fault::DraftFault;
 pub use extent::Extent;
 pub use fault::PastFault;
 pub use found::{AllFound, Found, OutOfRange, Which};
-pub use laws::{profile_law, search_law};
+pub use laws::{origins_law, profile_law, search_law};
 pub use link::{Computation, Link, Why};
 pub use moment::Moment;
 pub use origins::{Origins, bits_written, origins_of};
