@@ -15,4 +15,5 @@ mod Counting
 pub mod CallsFollowed
 mod Drafts
 mod MaskedBits
+mod SameOutcomes
 mod Determined
