@@ -1,5 +1,5 @@
 -- The check of a recording: what a run on from a progress shows, and what the checkpoints show together.
-use Rattle.std.proofs.Common.{◌≡◌, ◌≢◌, ◌⊎◌, ◌∙◌, ◌+◌, ◌-◌, ◌<◌, ◌≤◌, ℕ, Err, IfOk, IfSome, Ok, Result, inl, inr, List, ◌++◌, Bool, true, false, Option, Some, None, ap, arith, drop, eqb, length, length-append, length-drop, length-take, refl, subst, sym, take}
+use Rattle.std.proofs.Common.{◌≡◌, ◌≢◌, ◌∙◌, ◌+◌, ◌-◌, ◌<◌, ◌≤◌, ℕ, Err, IfOk, IfSome, Ok, Result, inl, inr, List, ◌++◌, Bool, true, false, Option, Some, None, ap, arith, drop, eqb, length, length-append, length-drop, length-take, refl, subst, sym, take}
 use Rattle.std.specs.Prelude.{◌↔◌, IsTrue, is_some}
 use Rattle.std.proofs.lemmas.Bool.{cases_lt, false≢true, true≢false}
 use Rattle.std.proofs.lemmas.List.{append_assoc, append_cancel_left, take-append-drop, take_all, take_at}
@@ -8,20 +8,19 @@ use Rattle.std.proofs.lemmas.Slice.Eq.{starts_is}
 use Rattle.std.specs.Cmp.Lexicographic.{pointwise}
 use Rattle.risc_model.specs.declared.event.Event.{Event}
 use Rattle.risc_model.specs.MachineState.{State}
-use Rattle.risc_model.specs.OneRun.{Outcome, state_from}
+use Rattle.risc_model.specs.OneRun.{Outcome}
 use Rattle.risc_model.specs.Replay.{run_of, sent_of}
 use Rattle.risc_model.proofs.RunLemmas.{run_of-none, sent_of-none}
 use Rattle.oberon_format.specs.Defined.{IsTrueAt, claimed, defined, output_between}
 use Rattle.oberon_format.specs.Defined.{state_at as state_in}
-use Rattle.oberon_format.specs.Recording.{IsLawfulWithDisk, RecordingParts, count_at, last_of}
+use Rattle.oberon_format.specs.Recording.{IsLawfulWithDisk, RecordingParts, count_at}
 use Rattle.oberon_check.specs.Difference.{IsDifference}
-use Rattle.oberon_check.specs.Verdict.{IsAccepted, IsFirstFalse}
 use Rattle.oberon_check.specs.declared.part.Part.{Part}
 use Rattle.oberon_check.proofs.Parts.{not_first}
 use Rattle.oberon_session.proofs.Runs.{run-on, sent-grows, sent-on}
 use Rattle.oberon_session.specs.Extended.{last_count}
 use Rattle.oberon_past.proofs.Inputs.{before-run}
-use Rattle.oberon_past.specs.Check.{AreTrueBefore, IsCheckable, IsChecked, IsFurther, IsProgress, IsRunOf, IsSentUpTo, IsTrueProgress, check_start}
+use Rattle.oberon_past.specs.Check.{AreTrueBefore, IsCheckable, IsChecked, IsRunOf, IsSentUpTo, IsTrueProgress, check_start}
 use Rattle.oberon_past.specs.Live.{inputs_before}
 use Rattle.oberon_past.specs.Past.{PastParts}
 use Rattle.oberon_past.specs.Run.{Run, state_at}
@@ -60,14 +59,6 @@ starting xs ys b is holds = (starts_is Decides-eqb xs ys b is).0 holds
 
 pub never-starting : (xs ys : List ℕ) (b : Bool) → b ≡ pointwise eqb ys (take (length ys) xs) → b ≡ false → (after : List ℕ) → xs ≢ ys ++ after
 never-starting xs ys b is fails after = λ same. absurd (false≢true (sym fails ∙ (starts_is Decides-eqb xs ys b is).1 after same))
-
--- all bytes are as many as there are
-pub all-taken : (xs ys : List ℕ) (m : ℕ) → m ≤ length xs → ys ≡ take m xs → ys ≡ xs → m ≡ length xs
-all-taken xs ys m few front whole =
-    let taken = length-take m xs in
-    let first = ap length front in
-    let all = ap length whole in
-    omega (arith, taken, first, all, few)
 
 -- ---- the run of a recording
 
@@ -143,12 +134,6 @@ module _ (r : RecordingParts) (k n m : ℕ) (begun : count_at r (k - 1) ≤ n) (
 -- ---- checkpoints
 
 module _ (r : RecordingParts) (k : ℕ) where
-  -- a machine that has come to a checkpoint
-  pub outcome-at : (n : ℕ) (s : State) → n ≡ count_at r k → s ≡ state_in r n → record { state = s; sent = (defined r k).sent } ≡ defined r k
-  outcome-at n s here is =
-      let state : s ≡ state_in r (count_at r k) = is ∙ ap (λ (m : ℕ). state_in r m) here in
-      λ i. record { state = state i; sent = (defined r k).sent }
-
   pub true-next : IsDifference (claimed r k) (defined r k) None → AreTrueBefore r k → AreTrueBefore r (k + 1)
   true-next same before j low high = elim (cases_lt j k) [
     | inl early ↦ before j low early
@@ -157,13 +142,6 @@ module _ (r : RecordingParts) (k : ℕ) where
         subst (λ (n : ℕ). IsTrueAt r n) here same
   ]
 
-pub all-true : (r : RecordingParts) → 0 < length r.checkpoints → (n : ℕ) → n ≡ length r.checkpoints → AreTrueBefore r n → IsAccepted r (last_of r) (count_at r (last_of r))
-all-true r some n is all = record {
-  true_at = λ k low high. all k low (omega (arith, high, some, is));
-  checkpoints_is = refl;
-  steps_is = refl;
-}
-
 -- ---- progress
 
 pub first-sent : (r : RecordingParts) (k n : ℕ) → n ≤ count_at r (k - 1) → output_between r (count_at r (k - 1)) n ≡ take 0 (claimed r k).sent
@@ -171,16 +149,6 @@ first-sent r k n low =
     sent_of-none r.inputs (count_at r (k - 1)) (n - count_at r (k - 1)) (state_in r (count_at r (k - 1))) (omega (arith, low))
 
 module _ (r : RecordingParts) (lawful : IsLawfulWithDisk r) where
-  pub begun-progress : (o : Option CheckProgress) → 1 < length r.checkpoints → IfSome o (IsProgress r) → IsProgress r (check_start o)
-  begun-progress None many is = record {
-    above = omega arith;
-    inside = many;
-    begun = omega (arith, lawful.begins);
-    on = omega arith;
-    sent = omega arith;
-  }
-  begun-progress (Some p) many is = is
-
   pub begun-true : (o : Option CheckProgress) → IfSome o (IsTrueProgress r) → IsTrueProgress r (check_start o)
   begun-true None is = record {
     before = λ j low high. absurd (omega (arith, low, high));
@@ -188,46 +156,11 @@ module _ (r : RecordingParts) (lawful : IsLawfulWithDisk r) where
   }
   begun-true (Some p) is = is
 
-  -- after checkpoint k the next one comes
-  pub next-progress : (k n : ℕ) → n ≡ count_at r k → k + 1 < length r.checkpoints → IsProgress r (record { checkpoint = k + 1; count = n; sent = Some 0 })
-  next-progress k n here more =
-      let before : k ≡ k + 1 - 1 = omega arith in
-      let same : count_at r k ≡ count_at r (k + 1 - 1) = ap (λ (j : ℕ). count_at r j) before in
-      record {
-        above = omega arith;
-        inside = more;
-        begun = omega (arith, here, same);
-        on = omega (arith, here, lawful.rises k more);
-        sent = omega arith;
-      }
-
   pub next-true : (k n : ℕ) → n ≡ count_at r k → AreTrueBefore r (k + 1) → IsTrueProgress r (record { checkpoint = k + 1; count = n; sent = Some 0 })
   next-true k n here all =
       let before : k ≡ k + 1 - 1 = omega arith in
       let same : count_at r k ≡ count_at r (k + 1 - 1) = ap (λ (j : ℕ). count_at r j) before in
       record { before = all; sent = first-sent r (k + 1) n (omega (arith, here, same)) }
-
--- ---- what comes further
-
-module _ (r : RecordingParts) (at reached : CheckProgress) (same : reached.checkpoint ≡ at.checkpoint) (on : at.count ≤ reached.count)
-    (some : (at.count < reached.count) ⊎ (reached.count ≡ count_at r at.checkpoint)) where
-  further-next : (next : CheckProgress) → next.count ≡ reached.count
-      → ((next ≡ reached) × (reached.count < count_at r reached.checkpoint)) ⊎ (reached.checkpoint < next.checkpoint) → IsFurther at next
-  further-next next count how = elim how [
-    | inl (is, early) ↦
-        let k : next.checkpoint ≡ reached.checkpoint = ap (λ (p : CheckProgress). p.checkpoint) is in
-        let here : count_at r reached.checkpoint ≡ count_at r at.checkpoint = ap (λ (j : ℕ). count_at r j) same in
-        elim some [
-          | inl further ↦ inl (omega (arith, further, count, k, same))
-          | inr whole ↦ absurd (omega (arith, whole, early, here))
-        ]
-    | inr later ↦ inl (omega (arith, later, count, same, on))
-  ]
-
-  pub passed-further : (c : Checked) → IsPassed r reached c → GoesOn r at c
-  passed-further (checked.Done verdict) is = tt
-  passed-further (checked.More next) is = (is.0, further-next next is.1 is.2)
-  passed-further (checked.Refused fault) is = is
 
 pub passed-come : (r : RecordingParts) (reached : CheckProgress) (s : State) → s ≡ state_in r reached.count → (c : Checked) → IsPassed r reached c → HasCome r s c
 passed-come r reached s is-here (checked.Done verdict) is = tt
@@ -237,22 +170,6 @@ passed-come r reached s is-here (checked.More next) is = come next.sent
     come None = tt
     come (Some m) = is-here ∙ ap (λ (n : ℕ). state_in r n) (sym is.1)
 passed-come r reached s is-here (checked.Refused fault) is = is
-
--- a progress that is further than one that is further
-pub further-on : (from at next : CheckProgress) → (at ≡ from) ⊎ (from.checkpoint + from.count < at.checkpoint + at.count) → IsFurther at next → IsFurther from next
-further-on from at next how further = elim how [
-  | inl same ↦ subst (λ (p : CheckProgress). IsFurther p next) same further
-  | inr more ↦ elim further [
-    | inl on ↦ inl (omega (arith, more, on))
-    | inr (k, count, some, none) ↦ inl (omega (arith, more, k, count))
-  ]
-]
-
-pub goes-on : (r : RecordingParts) (from at : CheckProgress) (c : Checked) → (at ≡ from) ⊎ (from.checkpoint + from.count < at.checkpoint + at.count)
-    → GoesOn r at c → GoesOn r from c
-goes-on r from at (checked.Done verdict) how is = tt
-goes-on r from at (checked.More next) how is = (is.0, further-on from at next how is.1)
-goes-on r from at (checked.Refused fault) how is = is
 
 pub others-stay : (r : RecordingParts) (k n to : ℕ) (o : Option ℕ) → o ≡ None → IsSentUpTo r k n o → IsSentUpTo r k to o
 others-stay r k n to None none is = is
