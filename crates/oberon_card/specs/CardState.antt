@@ -3,12 +3,12 @@ use Rattle.std.specs.Prelude.{ℕ, ◌-◌, ◌+◌, Bool, not, ◌==◌, ◌&&�
 use Rattle.std.specs.Prelude.{List, take, drop, Option, Some, None}
 use Rattle.oberon_card.specs.declared.card.Card.{Card}
 
--- a card over an image. `first` is the number of the image's first block, and `blocks` is how many it has. `command` has the bytes of
--- a command that came so far, and `application` says whether command 55 came just before. The card is going to say the bytes of
--- `reply`, then those of `sending`, what is left of a block that is read. `awaited` says that a command to write the block `target`
--- came, and that the token before its bytes did not; `packet` has the bytes of a block and of its checksum that came so far, once the
--- token came. `block` is what the card and its caller exchange: `write` names a block of the image that the caller is to write from
--- it, and `read` one that the caller is to read into it, in this order, before the next transfer
+-- a card over an image. `first` is the number of the image's first block, and `blocks` is how many it has. `command` has the
+-- bytes of a command that came so far, and `application` says whether command 55 came just before. The card is going to say the
+-- bytes of `reply`, then those of `sending`, what is left of a block that is read. `awaited` says that a command to write the
+-- block `target` came, and that the token before its bytes did not; `packet` has the bytes of a block and of its checksum that
+-- came so far, once the token came. `block` is what the card and its caller exchange: `write` names a block of the image that the
+-- caller is to write from it, and `read` one that the caller is to read into it, in this order, before the next transfer
 pub record CardState : Type 0 where
   pub first : ℕ
   pub blocks : ℕ
@@ -36,8 +36,8 @@ abbrev pub flagged : ℕ → ℕ → Option ℕ
 flagged flag number = if is_set flag then Some number else None
 
 -- the state that the fields hold, whatever their numbers. What is left of a reply, of a block that is read and of a block that is
--- written is at the end of its field, and a number of bytes above the length of the field means all of it; of a command at most five
--- bytes came
+-- written is at the end of its field, and a number of bytes above the length of the field means all of it; of a command at most
+-- five bytes came
 abbrev pub card_of : Card → CardState
 card_of c = record {
   first = c.first;

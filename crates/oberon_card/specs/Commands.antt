@@ -21,9 +21,9 @@ reading number s =
 unfoldable pub writing : ℕ → CardState → CardState
 writing number s = if has_block number s then record (stated 0 s) { awaited = true; target = number } else stated 0x40 s
 
--- a command and its argument of 32 bits: 0 resets the card; 8 asks for its voltages, and gets the lowest twelve bits of the argument
--- back; 16 sets the length of a block, which stays 512; 17 reads a block, and 24 writes one; 41 after 55 starts the card; 58 reads a
--- register, which says that it counts in blocks. Any other is unknown, with status 4
+-- a command and its argument of 32 bits: 0 resets the card; 8 asks for its voltages, and gets the lowest twelve bits of the
+-- argument back; 16 sets the length of a block, which stays 512; 17 reads a block, and 24 writes one; 41 after 55 starts the
+-- card; 58 reads a register, which says that it counts in blocks. Any other is unknown, with status 4
 unfoldable pub obeyed : ℕ → ℕ → CardState → CardState
 obeyed number argument s =
     if number == 0 then stated 1 s

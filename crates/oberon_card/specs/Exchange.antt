@@ -1,5 +1,5 @@
--- One exchange of bytes with a card: it says one, and hears one ("SD Specifications, Part 1: Physical Layer", SPI mode). That it tests
--- no checksum, and says 255 for each byte of one, is this project's own choice.
+-- One exchange of bytes with a card: it says one, and hears one ("SD Specifications, Part 1: Physical Layer", SPI mode). That it
+-- tests no checksum, and says 255 for each byte of one, is this project's own choice.
 use Rattle.std.specs.Prelude.{ℕ, ◌+◌, ◌*◌, ◌/◌, ◌%◌, ◌^◌, Bool, false, nat_lt, ◌==◌, ◌&&◌, ◌||◌, if◌then◌else◌}
 use Rattle.std.specs.Prelude.{List, [], ◌∷◌, ◌++◌, length, get_or, take, drop, Option, Some, None}
 use Rattle.oberon_card.specs.CardState.{CardState}

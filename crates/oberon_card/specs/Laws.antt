@@ -26,8 +26,8 @@ read_command a b c d checksum = 0x51 ∷ a ∷ b ∷ c ∷ d ∷ checksum ∷ []
 abbrev pub number_of : ℕ → ℕ → ℕ → ℕ → ℕ
 number_of a b c d = a * 2 ^ 24 + b * 2 ^ 16 + c * 2 ^ 8 + d
 
--- a card that gets the command to read a block that the image has asks its caller for it, and then says the status, the token and the
--- block to one that only listens, whatever it was going to say before
+-- a card that gets the command to read a block that the image has asks its caller for it, and then says the status, the token and
+-- the block to one that only listens, whatever it was going to say before
 pub record ReadLaw (s : CardState) (a b c d checksum : ℕ) : Type 0 where
   pub asks : (after_all (read_command a b c d checksum) s).read ≡ Some (number_of a b c d)
   pub says_block : says (replicate (length (255 ∷ 0 ∷ 255 ∷ 254 ∷ s.block)) 255) (after_all (read_command a b c d checksum) s)

@@ -33,7 +33,8 @@ served s = record s { write = None; read = None }
 -- the card after a transfer of a value. A card that is not selected drops what came of a command
 unfoldable pub transferred : ℕ → ℕ → CardState → CardState
 transferred control value s =
-    if is_selected control then exchanges (if is_fast control then 4 else 1) value (served s) else record (served s) { command = [] }
+    if is_selected control then exchanges (if is_fast control then 4 else 1) value (served s)
+    else record (served s) { command = [] }
 
 -- what the transfer answers; 255 from a card that is not selected
 unfoldable pub answer_of : ℕ → ℕ → CardState → ℕ

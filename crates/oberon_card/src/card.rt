@@ -12,8 +12,9 @@ pub(crate) const COMMAND_BYTES: usize = 6;
 
 /// An SD card over an image of blocks that its caller keeps, in the layout of C: 1,092 bytes.
 ///
-/// All zeros but for `first` and `blocks` is a card that was just powered; any other bytes are a card, too. The caller sets the first
-/// two fields, and reads the next four after each transfer; it reads and writes `block` as they say. The rest is the card's own.
+/// All zeros but for `first` and `blocks` is a card that was just powered; any other bytes are a card, too. The caller sets the
+/// first two fields, and reads the next four after each transfer; it reads and writes `block` as they say. The rest is the card's
+/// own.
 #[repr(C)]
 #[derive(Clone, Copy)]
 pub struct Card {

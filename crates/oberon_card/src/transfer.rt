@@ -21,11 +21,11 @@ fn is_fast(control: u32) -> bool
 }
 
 impl Card {
-    /// Does what a write of `value` to device word 4 does, after one of `control` to device word 5, and returns what word 4 reads from
-    /// then on.
+    /// Does what a write of `value` to device word 4 does, after one of `control` to device word 5, and returns what word 4 reads
+    /// from then on.
     ///
-    /// Any number is taken for either. The caller has done what the card asked for after the transfer before ([`Card::wants`]); else a
-    /// block that is read is what `block` has, and one that was to be written is lost.
+    /// Any number is taken for either. The caller has done what the card asked for after the transfer before ([`Card::wants`]);
+    /// else a block that is read is what `block` has, and one that was to be written is lost.
     pub fn transfer(&mut self, control: u32, value: u32) -> u32
         ensures after { card_of self.new ≡ transferred control value (card_of self.old) }
         ensures answer { result ≡ answer_of control value (card_of self.old) }
