@@ -98,6 +98,7 @@ def test_click_live(desk: Desk) -> None:
     page.wait("galluspa.count() > 20_000_000")
     desk.click_at(desk.column_of(5_000_000), page.answer("el('track').getBoundingClientRect().top") + 20)
     page.wait(f"{EXACT} && !galluspa.frame().on")
-    at = page.answer("galluspa.cursor()")
-    if not 4_500_000 < at < 5_500_000:
-        fail(f"it goes to {at:,}")
+    at, now = page.answer("[galluspa.cursor(), galluspa.count()]")
+    # (the machine goes on between the look at the timeline and the press)
+    if not 2_000_000 < at < now / 2:
+        fail(f"it goes to {at:,} of {now:,}")
