@@ -661,8 +661,9 @@ typedef struct {
  * Else it is GALLUSPA_CLOSED; GALLUSPA_OUT_OF_RANGE if budget is 0; GALLUSPA_NO_RECORDING; GALLUSPA_LATER if the last checkpoint is after
  * the end; GALLUSPA_OUT_OF_RANGE if the recording is of another run, or *progress is not one of it: it has no such checkpoint, the count
  * is not between that checkpoint's and the one before, or it claims fewer bytes; or GALLUSPA_OUT_OF_MEMORY (never for bytes that are not
- * a valid recording). Then nothing is written. Each call reads the recording, as galluspa_claim does, and holds, beside what
- * galluspa_past_at holds, at most as many bytes as a checkpoint claims to be sent. */
+ * a valid recording). Then nothing is written, and the past stays as it is, but that it may have more keyframes if memory ran out. Each
+ * call reads the recording, as galluspa_claim does, and holds, beside what galluspa_past_at holds, at most as many bytes as a checkpoint
+ * claims to be sent. */
 uint8_t galluspa_past_check(galluspa_past *past, const uint8_t *recording, size_t recording_len, uint64_t budget,
                             galluspa_progress *progress, uint8_t *line, size_t line_len, size_t *line_count, uint8_t *status);
 

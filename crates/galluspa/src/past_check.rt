@@ -8,7 +8,7 @@ ghost use Rattle.oberon_check.specs.Line.{line_of, status_of};
 ghost use Rattle.oberon_past.specs.Check.{IsCheckable, IsTrueProgress};
 ghost use Rattle.oberon_past.specs.Past.{IsLonger};
 ghost use Rattle.galluspa.specs.Claim.{IsNoRecording};
-ghost use Rattle.galluspa.specs.Past.{Holds, HoldsBoth, IsClosed};
+ghost use Rattle.galluspa.specs.Past.{Holds, HoldsBoth, IsClosed, Keeps};
 ghost use Rattle.galluspa.specs.PastCheck.{CanCheck, ComesFurther, EndsLater, IsOfAnother, IsTrueIn, progress_of};
 ghost use Rattle.galluspa.specs.Room.{IsAnswer, NeedsRoom};
 ghost use Rattle.galluspa.specs.inner.Checking.{IsReply, IsUnchecked, LeavesReply};
@@ -127,6 +127,7 @@ fn reply_of(
     ensures reply { IfOk result (IsReply recording.now progress) }
     ensures checkable { OnOk result (IsCheckable past.old recording.now progress) }
     ensures refused { IfErr result (IsUnchecked past.old recording.now progress) }
+    ensures unmoved { IfErr result (λ why. why ≢ Unchecked.Memory → past.new ≡ past.old) }
     ensures longer { IsLonger past.old past.new }
     ensures advances { IfOk result (LeavesReply past.old past.new progress) }
 {
@@ -157,6 +158,7 @@ fn check_text(
     ensures range { IfErr result (λ why. why ≡ Unchecked.Range → (budget ≡ 0) ⊎ IsOfAnother text.now progress.now past.old) }
     ensures recording { IfErr result (λ why. why ≡ Unchecked.Recording → (0 < budget) × IsNoRecording text.now) }
     ensures memory { IfErr result (λ why. why ≡ Unchecked.Memory → (0 < budget) × (first_fault_with_disk text.now ≡ None)) }
+    ensures unmoved { IfErr result (λ why. why ≢ Unchecked.Memory → past.new ≡ past.old) }
     ensures longer { IsLonger past.old past.new }
     ensures advances { IfOk result (LeavesReply past.old past.new (progress_of progress.now)) }
 {
@@ -202,8 +204,8 @@ fn write_line(answer: &Answer, line: &mut [u8], line_count: &mut usize, status: 
 /// Nothing else is written, but the length of the line to `line_count` if the result is 2 (`NO_ROOM`), as `line` has no room for
 /// it; 255 bytes are enough. Otherwise the result is 13 (`CLOSED`) if no past is open; 1 (`OUT_OF_RANGE`) if the budget is 0; 4
 /// (`NO_RECORDING`) if the bytes are not a recording; 14 (`LATER`) if its last checkpoint is after the end of the past; 1 again if
-/// it is of another run or the progress is not one of it; and 3 (`OUT_OF_MEMORY`) if memory ran out. The past stays open, of the
-/// same run.
+/// it is of another run or the progress is not one of it; and then the past stays as it is. It is 3 (`OUT_OF_MEMORY`) if memory ran
+/// out: then keyframes may have been added. The past stays open, of the same run.
 #[unsafe(no_mangle)]
 pub extern "C" fn galluspa_past_check(
     alloc: Global,
@@ -225,7 +227,7 @@ pub extern "C" fn galluspa_past_check(
         NeedsRoom (IsAnswer (IsLineOfWithDisk recording.now)) (length line.old) line_count.new }
     ensures unwritten { result ≢ DONE → (line.new ≡ line.old) × (status.new ≡ status.old) }
     ensures uncounted { result ≢ DONE → result ≢ NO_ROOM → line_count.new ≡ line_count.old }
-    ensures unmoved { result ≢ MORE → progress.new ≡ progress.old }
+    ensures unprogressed { result ≢ MORE → progress.new ≡ progress.old }
     ensures closed { result ≡ CLOSED ↔ IsClosed past.old }
     ensures checkable { (result ≡ DONE) ⊎ (result ≡ MORE) ⊎ (result ≡ NO_ROOM) →
         Holds (CanCheck recording.now progress.old) past.old }
@@ -236,6 +238,7 @@ pub extern "C" fn galluspa_past_check(
     ensures no_recording { result ≡ NO_RECORDING → IsNoRecording recording.now }
     ensures memory { result ≡ OUT_OF_MEMORY → first_fault_with_disk recording.now ≡ None }
     ensures longer { result ≢ CLOSED → HoldsBoth IsLonger past.old past.new }
+    ensures unmoved { (result ≡ OUT_OF_RANGE) ⊎ (result ≡ LATER) ⊎ (result ≡ NO_RECORDING) → Keeps past.old past.new }
     ensures kept { result ≡ CLOSED → past.new ≡ past.old }
     ensures codes { (result ≤ NO_RECORDING) ⊎ ((MORE ≤ result) × (result ≤ LATER)) }
 {

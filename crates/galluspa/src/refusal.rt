@@ -23,7 +23,7 @@ pub const NO_RECORDING: u8 = 4;
 /// The recording has no such checkpoint.
 pub const NO_CHECKPOINT: u8 = 5;
 
-/// The recording would have more than 1,000,000 inputs.
+/// The recording would have more than 4,000,000 inputs; or, if no disk answers, more than 1,000,000.
 pub const TOO_MANY_INPUTS: u8 = 6;
 
 /// The recording would have more than 4,097 checkpoints.
