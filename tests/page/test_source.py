@@ -336,7 +336,7 @@ def test_explain_stop(desk: Desk) -> None:
         ("DIV R0, R0, R3", "divisor: R3 = 00000000 is below 1, line 1; R3 was never written since the start."),
         ("MOV R3, 0\nDIV R0, R0, R3", "divisor: R3 = 00000000 is below 1, line 2; R3 was set by line 1."),
         ("MOV R0, 1\nFAD R0, R0, R0", "float: there is no FAD in this machine, line 2; it came from line 1."),
-        ("MOV R0, 1\nMOV R0, 2", "fetch: PC = 100000 is outside memory, PC 262144; it ran out of the program after line 2."),
+        ("MOV R0, 1\nMOV R0, 2", "fetch: PC = 100000 is outside memory, PC 262144; it left the program after line 2."),
     ):
         desk.run_text("other.asm", source)
         page.wait(f"{STOP}.endsWith('.')")

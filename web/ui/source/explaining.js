@@ -26,7 +26,7 @@ export async function explainStop({ at = 0, pc = 0, word, state }, stop) {
   if (app.work.fork !== fork || !found || found.stopped) return;
   const setter = found.stored ?? found;
   if (setter.at === undefined) line.append(`; R${register} was never written since the start`);
-  else line.append(register !== NO_REGISTER ? `; R${register} was set by ` : found.sure === false ? "; it ran out of the program after " : "; it came from ", instructionButton(setter.at, setter.pc ?? 0));
+  else line.append(register !== NO_REGISTER ? `; R${register} was set by ` : found.sure === false ? "; it left the program after " : "; it came from ", instructionButton(setter.at, setter.pc ?? 0));
   line.append(".");
 }
 

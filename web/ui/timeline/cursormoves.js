@@ -191,7 +191,7 @@ function modeOf(frame) {
   if (stop) return ["STOPPED", `${stopText(state)}. The machine does nothing more.${never}`];
   if (isAtLastCount) return ["LIMIT REACHED", `at ${grouped(countOf(state))}: no count comes after this one, so the machine does nothing more.${never}`];
   if (on) return ["LIVE", "What you type, click and send is recorded."];
-  if (isDone(frame) && !isToGoOn) return ["DONE", `Done at ${endText(field(state, AT.PC))}, which jumps to itself: nothing more happens.`];
+  if (isDone(frame) && !isToGoOn) return ["DONE", `Done at ${endText(field(state, AT.PC))}, which jumps to itself.`];
   return ["PAUSED", isToGoOn ? "Press a key to resume." : "Keys and the mouse go to the machine while it runs."];
 }
 
